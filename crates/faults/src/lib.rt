@@ -56,7 +56,8 @@ impl Fault {
             Fault::Full(n) | Fault::OutOfRange(n) | Fault::Taken(n) => *n,
             Fault::TooShort(n) | Fault::ListTooShort(n) | Fault::BadRecord(n) => *n,
             Fault::NoLayer(l) | Fault::PlaneLayer(l) => u64::from(*l),
-            Fault::NoPoint(n) | Fault::NoLink(n) | Fault::NotJoinable(n) | Fault::NoRoute(n) => u64::from(*n),
+            Fault::NoPoint(n) | Fault::NoLink(n) | Fault::NotJoinable(n) | Fault::NoRoute(n) =>
+                u64::from(*n),
             Fault::NotSearched => 0,
         }
     }

@@ -9,9 +9,9 @@ use crate::ahead::ahead;
 use crate::ahead::idle_all;
 use crate::ahead::waits;
 use crate::ahead::yields;
+use crate::queue::Queue;
 use crate::slot::Offer;
 use crate::slot::Slot;
-use crate::queue::Queue;
 use grades::Order;
 use grades::key::Key;
 

@@ -1,0 +1,4 @@
+pub mod Tables
+pub mod Plans
+pub mod Searches
+pub mod Tallies
