@@ -1,26 +1,22 @@
 -- Which searches are refused, and the figures of one that is not.
 use mathlib.Core.Path.{_≡_}
 use mathlib.Core.List.{List, [], _∷_, _++_}
-use mathlib.Core.Logic.{_⊎_}
 use Prim.Native.Nat.{ℕ, _+_, _*_, _≤_, _<_}
 use Rattle.std.specs.declared.result.Result.{Result}
 use Rattle.std.specs.declared.result.Result.the-variants.{Ok, Err}
 use Rattle.faults.specs.declared.Fault.{Fault}
-use Rattle.faults.specs.declared.Fault.the-variants.{OutOfRange, NoPoint, TooShort}
-use Rattle.faults.specs.Checks.{Check, Refused, Passed, if-fails}
+use Rattle.faults.specs.declared.Fault.the-variants.{NoPoint, TooShort}
+use Rattle.faults.specs.Checks.{Check, Refused, Passed, if-fails, rangeCheck}
 use Rattle.tables.specs.declared.plan.Plan.{Plan}
 use Rattle.tables.specs.Plans.{allowanceOf, widthOf, ceilingOf, placesOf}
 
--- the bound or the tolerance lies outside its range; which of the two is told is free
-abbrev pub rangeCheck : ℕ → ℕ → Check
-rangeCheck bound tolerance = record {
-  fails = (50000000 < bound) ⊎ (1000 < tolerance);
-  gives = λ f. ((f ≡ OutOfRange bound) × (50000000 < bound)) ⊎ ((f ≡ OutOfRange tolerance) × (1000 < tolerance));
-}
+-- the ranges of the bound and the tolerance
+abbrev pub figuresCheck : ℕ → ℕ → Check
+figuresCheck bound tolerance = rangeCheck ((bound, 0, 50000000) ∷ (tolerance, 0, 1000) ∷ [])
 
 -- the checks before the figures of a search from a source among n points are known
 abbrev pub planChecks : ℕ → ℕ → ℕ → ℕ → List Check
-planChecks n source bound tolerance = rangeCheck bound tolerance ∷ if-fails (n ≤ source) (NoPoint source) ∷ []
+planChecks n source bound tolerance = figuresCheck bound tolerance ∷ if-fails (n ≤ source) (NoPoint source) ∷ []
 
 -- the checks of the tables: so many outcomes, slots and labels for n points and the label places wanted
 abbrev pub roomChecks : ℕ → ℕ → ℕ → ℕ → ℕ → List Check

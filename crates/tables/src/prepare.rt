@@ -4,7 +4,7 @@ ghost use mathlib.Core.List.{[], _∷_};
 ghost use Prim.Native.Nat.{ℕ, _+_, _*_, _<_, _≤_};
 ghost use Rattle.faults.specs.Checks.{Checked};
 ghost use Rattle.tables.specs.Plans.{allowanceOf, widthOf};
-ghost use Rattle.tables.specs.Searches.{Planned, rangeCheck, roomChecks};
+ghost use Rattle.tables.specs.Searches.{Planned, figuresCheck, roomChecks};
 use crate::net::Net;
 use crate::plan::Plan;
 use faults::Fault;
@@ -13,8 +13,8 @@ const MAX_BOUND: u32 = 50_000_000;
 
 const MAX_TOLERANCE: u16 = 1000;
 
-fn check_range(bound: u32, tolerance: u16) -> Result<(), Fault>
-    ensures { λ r. ⌜ Checked (rangeCheck bound tolerance ∷ []) r ⌝ }
+fn check_figures(bound: u32, tolerance: u16) -> Result<(), Fault>
+    ensures { λ r. ⌜ Checked (figuresCheck bound tolerance ∷ []) r ⌝ }
 {
     if bound > MAX_BOUND {
         return Err(Fault::OutOfRange(bound as u64));
@@ -48,7 +48,7 @@ fn bucket_width(allowance: u32, points: usize) -> u32
 pub fn prepare(net: Net, source: u16, bound: u32, tolerance: u16) -> Result<Plan, Fault>
     ensures { λ r. ⌜ Planned (net .entry .points) source bound tolerance r ⌝ }
 {
-    check_range(bound, tolerance)?;
+    check_figures(bound, tolerance)?;
     let points = net.points;
     if source as usize >= points {
         return Err(Fault::NoPoint(source));

@@ -1,0 +1,4 @@
+// The layers of a board: a stackup is open while it is built, and closed for good after.
+pub mod layer;
+pub mod stackup;
+pub mod table;
