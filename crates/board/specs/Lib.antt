@@ -1,0 +1,5 @@
+pub mod Points
+pub mod Boards
+pub mod Edits
+pub mod Routes
+pub mod Views

@@ -1,0 +1,54 @@
+// The route of a label.
+ghost use mathlib.Core.Path.{_≡_};
+ghost use mathlib.Core.List.{_++_};
+ghost use Prim.Native.Nat.{ℕ, _+_, _*_, _≤_};
+ghost use lib.ListN.{length, drop};
+ghost use Rattle.search.specs.Trails.{endBefore, trail};
+ghost use Rattle.tables.specs.Tables.{labelAt};
+use grades::Grade;
+use tables::table::Label;
+use tables::table::Link;
+use tables::wipe::empty_label;
+
+// The label of a point in a bucket. A place that is not there holds no label.
+pub fn label_at<G: Grade>(labels: &[Label<G>], buckets: u32, point: u16, bucket: u32) -> Label<G>
+    ensures { λ r. ⌜ r ≡ labelAt (G·Grade .initial) (now (labels .entry)) (point * buckets + bucket) ⌝ }
+{
+    let place = point as usize * buckets as usize + bucket as usize;
+    if place < labels.len() { labels[place] } else { empty_label() }
+}
+
+// The end of a link that is not `point`.
+fn end_before(links: &[Link], link: u16, point: u16) -> u16
+    ensures { λ r. ⌜ r ≡ endBefore (now (links .entry)) link point ⌝ }
+{
+    let k = link as usize;
+    if k >= links.len() {
+        return 0;
+    }
+    let link = links[k];
+    if link.from == point { link.to } else { link.from }
+}
+
+// Writes the last `count` links of the route of the label at (point, bucket), the earliest first.
+pub fn write_trail<G: Grade>(
+    links: &[Link],
+    labels: &[Label<G>],
+    buckets: u32,
+    point: u16,
+    bucket: u32,
+    count: usize,
+    list: &mut [u16],
+)
+    requires { ⌜ count ≤ length (now list) ⌝ }
+    ensures { λ _. ⌜ now (list .exit) ≡ trail (G·Grade .initial) (now (links .entry)) buckets (now (labels .entry)) point bucket count ++ drop count (now (list .entry)) ⌝ }
+{
+    let mut at = point;
+    let mut within = bucket;
+    for i in (0..count).rev() {
+        let label = label_at(labels, buckets, at, within);
+        list[i] = label.link;
+        at = end_before(links, label.link, at);
+        within = label.earlier;
+    }
+}
