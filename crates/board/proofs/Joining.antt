@@ -10,15 +10,11 @@ use lib.Seq.{take-set-lt}
 use Rattle.std.proofs.shelf.Lists.{getD-set-same, getD-set-other, getD-take, getD-append-left, getD-push}
 use Rattle.std.proofs.shelf.Tests.{cases-lt, cases-eq}
 use Rattle.tables.specs.declared.table.Link.{Link}
-use Rattle.tables.specs.Tables.{Joined, linkAt, noLink}
+use Rattle.tables.specs.Tables.{Joined, Ends, linkAt, noLink}
 use Rattle.board.specs.Edits.{opened, openedAt}
 
 pub mark-front : (t : List Link) (n k : ℕ) (m : Bool) → k < n → take n (openedAt t k m) ≡ openedAt (take n t) k m
 mark-front t n k m h = take-set-lt n t k (opened m (linkAt t k)) h ∙ ap (λ (l : Link). set (take n t) k (opened m l)) (sym (getD-take n t k noLink h))
-
--- both ends of one link are below n, and apart
-abbrev Ends : ℕ → Link → Type 0
-Ends n l = (l .from < n) × (l .to < n) × (l .from ≡ l .to → ⊥)
 
 ends-at : (n : ℕ) (l k : Link) → l ≡ k → Ends n k → Ends n l
 ends-at n l k e h = rw e h

@@ -1,7 +1,7 @@
 -- What each edit of a board answers, and the board after it.
 use mathlib.Core.Path.{_≡_}
 use mathlib.Core.List.{List, [], _∷_, _++_}
-use mathlib.Core.Bool.{Bool, true, false, _&&_, _||_, not}
+use mathlib.Core.Bool.{Bool, true, false, _&&_, _||_}
 use mathlib.Core.Logic.{_⊎_}
 use Prim.Native.Nat.{ℕ, _+_, _-_, _*_, _≤_, _<_, min, max}
 use lib.Dec.{eqb}
@@ -87,7 +87,7 @@ abbrev pub inLine : Point → Point → Bool
 inLine p q = eqb (p .layer) (q .layer) && (eqb (p .x) (q .x) || eqb (p .y) (q .y))
 
 abbrev pub trackCheck : List Point → ℕ → ℕ → Check
-trackCheck ps u v = if-fails ((not (eqb u v) && inLine (pointAt ps u) (pointAt ps v)) ≡ false) (NotJoinable v)
+trackCheck ps u v = if-fails ((u ≡ v) ⊎ (inLine (pointAt ps u) (pointAt ps v) ≡ false)) (NotJoinable v)
 
 -- how far apart two numbers are
 abbrev pub distance : ℕ → ℕ → ℕ
@@ -103,6 +103,11 @@ trackOn layer len u v g =
 
 abbrev pub trackBetween : Stack → List Point → ℕ → ℕ → ℕ → Link
 trackBetween s ps u v g = trackOn (layerAt (s .layers) (pointAt ps u .layer)) (trackLength (pointAt ps u) (pointAt ps v)) u v g
+
+-- the track between two points that may be joined by one
+abbrev pub JoinsTrack : Stack → List Point → ℕ → ℕ → ℕ → Result Link Fault → Type 0
+JoinsTrack s ps u v g (Ok l) = Passed (trackCheck ps u v ∷ []) × (l ≡ trackBetween s ps u v g)
+JoinsTrack s ps u v g (Err f) = Refused (trackCheck ps u v ∷ []) f
 
 abbrev pub trackChecks : {G : Type 0} → BoardState G → ℕ → ℕ → ℕ → List Check
 trackChecks b u v g = joinChecks b u v g ++ (trackCheck (b .points) u v ∷ [])
@@ -126,6 +131,11 @@ viaChecks b u v g = joinChecks b u v g ++ (viaCheck (b .stack .spans) (b .points
 -- the open link over a span
 abbrev pub viaOver : Span → ℕ → ℕ → ℕ → Link
 viaOver s u v g = record { delay = s .delay; cost = record { price = s .price; gap = g }; from = u; to = v; «open» = true }
+
+-- the via between two points that may be joined by one
+abbrev pub JoinsVia : List Span → List Point → ℕ → ℕ → ℕ → Result Link Fault → Type 0
+JoinsVia ss ps u v g (Ok l) = Passed (viaCheck ss ps u v ∷ []) × ((k : ℕ) × Allows ss ps u v k × (l ≡ viaOver (spanAt ss k) u v g))
+JoinsVia ss ps u v g (Err f) = Refused (viaCheck ss ps u v ∷ []) f
 
 -- a via is added under the next number, or the call is refused and nothing changes
 abbrev pub AddsVia : {G : Type 0} → BoardState G → ℕ → ℕ → ℕ → Result ℕ Fault → BoardState G → Type 0

@@ -19,6 +19,7 @@ use tables::table::Outcome;
 
 mod check;
 pub mod edit;
+mod join;
 
 
 // The first `point_count` points and `link_count` links are the board's. Every point lies on a signal layer, and

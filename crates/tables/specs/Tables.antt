@@ -47,9 +47,12 @@ noLink = record { delay = 0; cost = record { price = 0; gap = 0 }; from = 0; to 
 abbrev pub linkAt : List Link → ℕ → Link
 linkAt links k = getD links k noLink
 
--- both ends of each link are points of the board, and apart
+-- both ends of a link are points of the board, and apart
+abbrev pub Ends : ℕ → Link → Type 0
+Ends n l = (l .from < n) × (l .to < n) × (l .from ≡ l .to → ⊥)
+
 abbrev pub Joined : ℕ → List Link → Type 0
-Joined n links = (k : ℕ) → k < length links → (linkAt links k .from < n) × (linkAt links k .to < n) × (linkAt links k .from ≡ linkAt links k .to → ⊥)
+Joined n links = (k : ℕ) → k < length links → Ends n (linkAt links k)
 
 -- where a walk from a point comes by a link, if the link has an end there
 abbrev pub otherEnd : Link → ℕ → Option ℕ

@@ -1,34 +1,22 @@
 // Opening a board, and the edits.
 ghost use mathlib.Core.Path.{_≡_};
 ghost use mathlib.Core.Bool.{true, false};
-ghost use mathlib.Core.List.{[], _∷_};
-ghost use Prim.Native.Nat.{ℕ, _+_, _<_, _≤_};
+ghost use Prim.Native.Nat.{ℕ, _<_};
 ghost use lib.ListN.{length};
-ghost use Rattle.std.specs.Options.{Cases as BySome};
-ghost use Rattle.faults.specs.Checks.{Checked};
-ghost use Rattle.stackup.specs.Stacks.{spanAt};
 ghost use Rattle.stackup.specs.Views.{closedOf};
 ghost use Rattle.board.specs.Boards.{newBoard};
-ghost use Rattle.board.specs.Edits.{AddsPoint, AddsTrack, AddsVia, SetsMark, Allows, trackCheck, trackBetween, withLink, distance as farFrom};
+ghost use Rattle.board.specs.Edits.{AddsPoint, AddsTrack, AddsVia, SetsMark, withLink};
+ghost use Rattle.tables.specs.Tables.{Ends};
 ghost use Rattle.board.specs.Views.{viewOf};
 
 use crate::board::Board;
 use crate::point::Point;
 use faults::Fault;
 use grades::Grade;
-use grades::LinkCost;
-use stackup::layer::Span;
 use stackup::stackup::ClosedStackup;
 use tables::table::Label;
 use tables::table::Link;
 use tables::table::Outcome;
-
-fn distance(a: u16, b: u16) -> u32
-    ensures value { λ r. ⌜ r ≡ farFrom a b ⌝ }
-    ensures bound { λ r. ⌜ r < 65536 ⌝ }
-{
-    if a < b { (b - a) as u32 } else { (a - b) as u32 }
-}
 
 impl<'p, 'l, 'b, 'o, G: Grade> Board<'p, 'l, 'b, 'o, G> {
     // A board with no points and no links, whatever the tables hold.
@@ -55,6 +43,39 @@ impl<'p, 'l, 'b, 'o, G: Grade> Board<'p, 'l, 'b, 'o, G> {
         self.point_count = n + 1;
         self.standing = None;
         Ok(n as u16)
+    }
+
+    // Puts a link under the next number.
+    fn push_link(&mut self, link: Link) -> u16
+        requires room { ⌜ now self .«link_count» < length (now (now self .links)) ⌝ }
+        requires few { ⌜ now self .«link_count» < 16384 ⌝ }
+        requires ends { ⌜ Ends (now self .«point_count») link ⌝ }
+        ensures number { λ r. ⌜ r ≡ length (viewOf (now (self .entry)) .links) ⌝ }
+        ensures after { λ _. ⌜ viewOf (now (self .exit)) ≡ withLink (viewOf (now (self .entry))) link ⌝ }
+    {
+        let n = self.link_count;
+        self.links[n] = link;
+        self.link_count = n + 1;
+        self.standing = None;
+        n as u16
+    }
+
+    // Adds a track between two points, and answers with its number.
+    pub fn add_track(&mut self, from: u16, to: u16, gap: u16) -> Result<u16, Fault>
+        ensures { λ r. ⌜ AddsTrack (viewOf (now (self .entry))) from to gap r (viewOf (now (self .exit))) ⌝ }
+    {
+        self.check_join(from, to, gap)?;
+        let track = self.track_between(from, to, gap)?;
+        Ok(self.push_link(track))
+    }
+
+    // Adds a via between two points, and answers with its number.
+    pub fn add_via(&mut self, from: u16, to: u16, gap: u16) -> Result<u16, Fault>
+        ensures { λ r. ⌜ AddsVia (viewOf (now (self .entry))) from to gap r (viewOf (now (self .exit))) ⌝ }
+    {
+        self.check_join(from, to, gap)?;
+        let via = self.via_between(from, to, gap)?;
+        Ok(self.push_link(via))
     }
 
     fn set_open(&mut self, link: u16, open: bool) -> Result<(), Fault>

@@ -4,7 +4,7 @@ ghost use mathlib.Core.Bool.{not};
 ghost use Prim.Native.Nat.{ℕ, _<_, _≤_};
 ghost use lib.ListN.{length};
 ghost use Rattle.std.specs.Options.{Cases as BySome};
-ghost use Rattle.stackup.specs.Stacks.{FindsSignal, isSignal, SpanNo, spanAt};
+ghost use Rattle.stackup.specs.Stacks.{FindsSignal, isSignal, layerAt, SpanNo, spanAt};
 ghost use Rattle.stackup.specs.Views.{stackOf, closedOf};
 use crate::layer::Layer;
 use crate::layer::LayerKind;
@@ -42,6 +42,18 @@ impl ClosedStackup {
         match found.kind {
             LayerKind::Signal => Ok(found),
             LayerKind::Plane => Err(Fault::PlaneLayer(layer)),
+        }
+    }
+
+    // A layer by its number. One that is not there is a plane with no rates.
+    pub fn layer(&self, layer: u8) -> Layer
+        ensures { λ r. ⌜ r ≡ layerAt (closedOf (now (self .entry)) .layers) layer ⌝ }
+    {
+        let i = layer as usize;
+        if i < self.stack.layers.rows.len() {
+            self.stack.layers.rows[i]
+        } else {
+            Layer { kind: LayerKind::Plane, delay_rate: 0, price_rate: 0 }
         }
     }
 
