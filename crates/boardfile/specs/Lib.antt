@@ -1,0 +1,3 @@
+pub mod Little
+pub mod Format
+pub mod Text
