@@ -27,6 +27,7 @@ joined-push n ls l new j k h = go (cases-lt k (length ls))
   where
     long : length (ls ++ (l ∷ [])) ≡ length ls + 1
     long = simp length-append (omega arith)
+
     go : (k < length ls) ⊎ (length ls ≤ k) → Ends n (linkAt (ls ++ (l ∷ [])) k)
     go (inl lt) = ends-at n _ (linkAt ls k) (getD-append-left ls (l ∷ []) noLink k lt) (j k lt)
     go (inr ge) = ends-at n _ l (getD-push ls l noLink k (omega (arith, long, h))) new
@@ -36,6 +37,7 @@ joined-opened n ls i m j k h = go (cases-eq k i)
   where
     lt : k < length ls
     lt = omega (arith, simp length-set at h)
+
     go : (k ≡ i) ⊎ (k ≡ i → ⊥) → Ends n (linkAt (openedAt ls i m) k)
     go (inl e) = rw e (let li : i < length ls = omega (arith, e, lt) in ends-at n _ (opened m (linkAt ls i)) (getD-set-same ls i (opened m (linkAt ls i)) noLink li) (j i li))
     go (inr ne) = ends-at n _ (linkAt ls k) (getD-set-other ls i k (opened m (linkAt ls i)) noLink ne) (j k lt)

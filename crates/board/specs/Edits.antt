@@ -44,8 +44,10 @@ module _ {G : Type 0} (b : BoardState G) where
 
   -- the first of two ends that is not on the board is told
   abbrev pub endsCheck : ℕ → ℕ → Check
-  endsCheck u v = record { fails = (length (b .points) ≤ u) ⊎ (length (b .points) ≤ v);
-    gives = λ f. ((length (b .points) ≤ u) × (f ≡ NoPoint u)) ⊎ ((u < length (b .points)) × (f ≡ NoPoint v)) }
+  endsCheck u v = record {
+    fails = (length (b .points) ≤ u) ⊎ (length (b .points) ≤ v);
+    gives = λ f. ((length (b .points) ≤ u) × (f ≡ NoPoint u)) ⊎ ((u < length (b .points)) × (f ≡ NoPoint v));
+  }
 
 abbrev pub placeCheck : ℕ → ℕ → Check
 placeCheck x y = rangeCheck ((x, 0, 20000) ∷ (y, 0, 20000) ∷ [])
@@ -63,8 +65,16 @@ pointChecks b p = pointRoomCheck b ∷ placeCheck (p .x) (p .y) ∷ (signalCheck
 
 -- the board with one more point, on which no search stands
 abbrev pub withPoint : {G : Type 0} → BoardState G → Point → BoardState G
-withPoint b p = record { stack = b .stack; points = b .points ++ (p ∷ []); points-free = drop 1 (b .points-free);
-  links = b .links; links-free = b .links-free; labels = b .labels; outcomes = b .outcomes; standing = None }
+withPoint b p = record {
+  stack = b .stack;
+  points = b .points ++ (p ∷ []);
+  points-free = drop 1 (b .points-free);
+  links = b .links;
+  links-free = b .links-free;
+  labels = b .labels;
+  outcomes = b .outcomes;
+  standing = None;
+}
 
 -- a point is added under the next number, or the call is refused and nothing changes
 abbrev pub AddsPoint : {G : Type 0} → BoardState G → Point → Result ℕ Fault → BoardState G → Type 0
@@ -79,8 +89,16 @@ joinChecks b u v g = linkRoomCheck b ∷ gapCheck g ∷ endsCheck b u v ∷ []
 
 -- the board with one more link, on which no search stands
 abbrev pub withLink : {G : Type 0} → BoardState G → Link → BoardState G
-withLink b l = record { stack = b .stack; points = b .points; points-free = b .points-free;
-  links = b .links ++ (l ∷ []); links-free = drop 1 (b .links-free); labels = b .labels; outcomes = b .outcomes; standing = None }
+withLink b l = record {
+  stack = b .stack;
+  points = b .points;
+  points-free = b .points-free;
+  links = b .links ++ (l ∷ []);
+  links-free = drop 1 (b .links-free);
+  labels = b .labels;
+  outcomes = b .outcomes;
+  standing = None;
+}
 
 -- two points of one layer that share x or y
 abbrev pub inLine : Point → Point → Bool
@@ -153,8 +171,16 @@ abbrev pub openedAt : List Link → ℕ → Bool → List Link
 openedAt ls k m = set ls k (opened m (linkAt ls k))
 
 abbrev pub withMark : {G : Type 0} → BoardState G → ℕ → Bool → BoardState G
-withMark b k m = record { stack = b .stack; points = b .points; points-free = b .points-free;
-  links = openedAt (b .links) k m; links-free = b .links-free; labels = b .labels; outcomes = b .outcomes; standing = None }
+withMark b k m = record {
+  stack = b .stack;
+  points = b .points;
+  points-free = b .points-free;
+  links = openedAt (b .links) k m;
+  links-free = b .links-free;
+  labels = b .labels;
+  outcomes = b .outcomes;
+  standing = None;
+}
 
 -- a link is blocked or freed, or the call is refused and nothing changes
 abbrev pub SetsMark : {G : Type 0} → BoardState G → ℕ → Bool → Result Unit Fault → BoardState G → Type 0

@@ -27,8 +27,16 @@ use Rattle.board.specs.Edits.{pointCheck}
 
 -- the board after a search that left these tables
 abbrev pub withSearch : {G : Type 0} → BoardState G → List (Label G) → List Outcome → Plan → BoardState G
-withSearch b labels outcomes p = record { stack = b .stack; points = b .points; points-free = b .points-free;
-  links = b .links; links-free = b .links-free; labels = labels; outcomes = outcomes; standing = Some p }
+withSearch b labels outcomes p = record {
+  stack = b .stack;
+  points = b .points;
+  points-free = b .points-free;
+  links = b .links;
+  links-free = b .links-free;
+  labels = labels;
+  outcomes = outcomes;
+  standing = Some p;
+}
 
 -- the checks of a search with a queue of so many slots
 abbrev pub boardChecks : {G : Type 0} → BoardState G → ℕ → ℕ → ℕ → ℕ → List Check
@@ -39,9 +47,14 @@ abbrev pub Searches : {G : Type 0} → G → BoardState G → ℕ → ℕ → �
 Searches initial b slots source bound tolerance (Ok f) c queue =
     Passed (boardChecks b slots source bound tolerance)
     × ((p : Plan) × Figures (length (b .points)) source bound tolerance p × (f .width ≡ p .width)
-      × Searched initial (b .links) (length (b .points)) source bound (p .buckets) (b .labels) (b .outcomes) (f .reached) (f .taken) (c .labels) (c .outcomes) queue
-      × (c ≡ withSearch b (c .labels) (c .outcomes) p))
+    × Searched initial (b .links) (length (b .points)) source bound (p .buckets) (b .labels) (b .outcomes) (f .reached) (f .taken) (c .labels) (c .outcomes) queue
+    × (c ≡ withSearch b (c .labels) (c .outcomes) p))
 Searches initial b slots source bound tolerance (Err f) c queue = Refused (boardChecks b slots source bound tolerance) f × (c ≡ b)
+
+-- a refused search leaves the queue as it was
+abbrev pub Untouched : {Q : Type 0} → Result Found Fault → Q → Q → Type 0
+Untouched (Ok f) queue queue′ = Unit {0}
+Untouched (Err f) queue queue′ = queue′ ≡ queue
 
 -- the label given at a point: the one in its given bucket
 abbrev pub givenLabel : {G : Type 0} → G → BoardState G → Plan → ℕ → Label G
@@ -68,5 +81,5 @@ abbrev pub Reads : {G : Type 0} → G → BoardState G → ℕ → List ℕ → 
 Reads initial b v list (Ok r) list′ =
     Passed (readChecks initial b v (length list))
     × ((p : Plan) × (b .standing ≡ Some p) × (r ≡ routeOf (givenLabel initial b p v))
-      × (list′ ≡ trail initial (b .links) (p .buckets) (b .labels) v (outcomeAt (b .outcomes) v .given) (r .count) ++ drop (r .count) list))
+    × (list′ ≡ trail initial (b .links) (p .buckets) (b .labels) v (outcomeAt (b .outcomes) v .given) (r .count) ++ drop (r .count) list))
 Reads initial b v list (Err f) list′ = Refused (readChecks initial b v (length list)) f × (list′ ≡ list)

@@ -14,5 +14,5 @@ viewOf b = record {
   links-free = drop (b .«link_count») (now (b .links));
   labels = now (b .labels);
   outcomes = now (b .outcomes);
-  standing = b .standing
-  }
+  standing = b .standing;
+}

@@ -8,7 +8,6 @@ ghost use Rattle.stackup.specs.Stacks.{isSignal};
 ghost use Rattle.stackup.specs.Views.{closedOf};
 ghost use Rattle.tables.specs.Tables.{Joined};
 ghost use Rattle.board.specs.Points.{pointAt};
-
 use crate::point::Point;
 use grades::Grade;
 use stackup::stackup::ClosedStackup;
@@ -20,7 +19,7 @@ use tables::table::Outcome;
 mod check;
 pub mod edit;
 mod join;
-
+pub mod route;
 
 // The first `point_count` points and `link_count` links are the board's. Every point lies on a signal layer, and
 // every link joins two points of the board that are apart. `standing` has the figures of the last accepted search,

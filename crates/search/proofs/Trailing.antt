@@ -14,8 +14,8 @@ use Rattle.search.specs.Trails.{trail, endBefore}
 module _ {G : Type 0} (initial : G) (links : List Link) (buckets : ℕ) (labels : List (Label G)) where
   step : (v b k : ℕ) (list : List ℕ) → k < length list
       → trail initial links buckets labels v b (suc k) ++ drop (k + 1) list
-        ≡ trail initial links buckets labels (endBefore links (labelAt initial labels (v * buckets + b) .link) v) (labelAt initial labels (v * buckets + b) .earlier) k
-          ++ drop k (set list k (labelAt initial labels (v * buckets + b) .link))
+      ≡ trail initial links buckets labels (endBefore links (labelAt initial labels (v * buckets + b) .link) v) (labelAt initial labels (v * buckets + b) .earlier) k
+      ++ drop k (set list k (labelAt initial labels (v * buckets + b) .link))
   step v b k list h =
       let label = labelAt initial labels (v * buckets + b) in
       let rest = trail initial links buckets labels (endBefore links (label .link) v) (label .earlier) k in
@@ -23,8 +23,8 @@ module _ {G : Type 0} (initial : G) (links : List Link) (buckets : ℕ) (labels 
 
   pub trail-more : (v b i : ℕ) (list : List ℕ) → 0 < i → i ≤ length list
       → trail initial links buckets labels v b i ++ drop i list
-        ≡ trail initial links buckets labels (endBefore links (labelAt initial labels (v * buckets + b) .link) v) (labelAt initial labels (v * buckets + b) .earlier) (i - 1)
-          ++ drop (i - 1) (set list (i - 1) (labelAt initial labels (v * buckets + b) .link))
+      ≡ trail initial links buckets labels (endBefore links (labelAt initial labels (v * buckets + b) .link) v) (labelAt initial labels (v * buckets + b) .earlier) (i - 1)
+      ++ drop (i - 1) (set list (i - 1) (labelAt initial labels (v * buckets + b) .link))
   trail-more v b i list pos le =
       let s : i ≡ suc (i - 1) = omega arith in
       let t : i ≡ i - 1 + 1 = omega arith in

@@ -4,10 +4,11 @@ ghost use mathlib.Core.List.{_++_};
 ghost use Prim.Native.Nat.{ℕ, _+_, _*_, _≤_};
 ghost use lib.ListN.{length, drop};
 ghost use Rattle.search.specs.Trails.{endBefore, trail};
-ghost use Rattle.tables.specs.Tables.{labelAt};
+ghost use Rattle.tables.specs.Tables.{labelAt, outcomeAt};
 use grades::Grade;
 use tables::table::Label;
 use tables::table::Link;
+use tables::table::Outcome;
 use tables::wipe::empty_label;
 
 // The label of a point in a bucket. A place that is not there holds no label.
@@ -15,7 +16,23 @@ pub fn label_at<G: Grade>(labels: &[Label<G>], buckets: u32, point: u16, bucket:
     ensures { λ r. ⌜ r ≡ labelAt (G·Grade .initial) (now (labels .entry)) (point * buckets + bucket) ⌝ }
 {
     let place = point as usize * buckets as usize + bucket as usize;
-    if place < labels.len() { labels[place] } else { empty_label() }
+    if place < labels.len() {
+        labels[place]
+    } else {
+        empty_label()
+    }
+}
+
+// The bucket of the label given at a point.
+pub fn given_bucket(outcomes: &[Outcome], point: u16) -> u32
+    ensures { λ r. ⌜ r ≡ outcomeAt (now (outcomes .entry)) point .given ⌝ }
+{
+    let v = point as usize;
+    if v < outcomes.len() {
+        outcomes[v].given
+    } else {
+        0
+    }
 }
 
 // The end of a link that is not `point`.
@@ -27,7 +44,11 @@ fn end_before(links: &[Link], link: u16, point: u16) -> u16
         return 0;
     }
     let link = links[k];
-    if link.from == point { link.to } else { link.from }
+    if link.from == point {
+        link.to
+    } else {
+        link.from
+    }
 }
 
 // Writes the last `count` links of the route of the label at (point, bucket), the earliest first.

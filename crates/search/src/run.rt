@@ -22,7 +22,12 @@ use tables::wipe::unreached;
 use tables::wipe::wipe;
 
 // Clears what an earlier search left in the tables and the queue.
-fn reset<G: Grade, Q: Queue<G>>(plan: Plan, labels: &mut [Label<G>], outcomes: &mut [Outcome], queue: &mut Q)
+fn reset<G: Grade, Q: Queue<G>>(
+    plan: Plan,
+    labels: &mut [Label<G>],
+    outcomes: &mut [Outcome],
+    queue: &mut Q,
+)
     requires { ⌜ plan .points ≤ length (now outcomes) ⌝ }
     requires { ⌜ plan .points * plan .buckets ≤ length (now labels) ⌝ }
     ensures labels { λ _. ⌜ Wiped (emptyLabel (G·Grade .initial)) (plan .points * plan .buckets) (now (labels .entry)) (now (labels .exit)) ⌝ }
@@ -54,7 +59,11 @@ fn explore<G: Grade, Q: Queue<G>>(
     ensures ready { λ _. ⌜ Q·Queue .ready (now (queue .exit)) ⌝ }
 {
     reset(plan, labels, outcomes, queue);
-    Found { width: plan.width, reached: 0, taken: queue.taken() }
+    Found {
+        width: plan.width,
+        reached: 0,
+        taken: queue.taken(),
+    }
 }
 
 // Searches from a source over the open links of a board, and answers with the search's figures and what it found.

@@ -7,7 +7,6 @@ ghost use Rattle.faults.specs.Checks.{Checked};
 ghost use Rattle.board.specs.Points.{PointNo};
 ghost use Rattle.board.specs.Edits.{placeCheck, gapCheck, pointRoomCheck, linkRoomCheck, takenCheck, pointChecks, pointCheck, linkCheck, endsCheck, joinChecks};
 ghost use Rattle.board.specs.Views.{viewOf};
-
 use crate::board::Board;
 use crate::point::Point;
 use crate::point::PointPartialEq;
@@ -15,8 +14,11 @@ use faults::Fault;
 use grades::Grade;
 
 const MAX_POINTS: usize = 4096;
+
 const MAX_LINKS: usize = 16384;
+
 const MAX_PLACE: u16 = 20_000;
+
 const MAX_GAP: u16 = 20_000;
 
 fn check_place(x: u16, y: u16) -> Result<(), Fault>
@@ -45,14 +47,22 @@ impl<'p, 'l, 'b, 'o, G: Grade> Board<'p, 'l, 'b, 'o, G> {
         ensures { λ r. ⌜ Checked (pointRoomCheck (viewOf (now (self .entry))) ∷ []) r ⌝ }
     {
         let room = self.points.len().min(MAX_POINTS);
-        if self.point_count < room { Ok(()) } else { Err(Fault::Full(room as u64)) }
+        if self.point_count < room {
+            Ok(())
+        } else {
+            Err(Fault::Full(room as u64))
+        }
     }
 
     fn check_link_room(&self) -> Result<(), Fault>
         ensures { λ r. ⌜ Checked (linkRoomCheck (viewOf (now (self .entry))) ∷ []) r ⌝ }
     {
         let room = self.links.len().min(MAX_LINKS);
-        if self.link_count < room { Ok(()) } else { Err(Fault::Full(room as u64)) }
+        if self.link_count < room {
+            Ok(())
+        } else {
+            Err(Fault::Full(room as u64))
+        }
     }
 
     // The number of the point at a place, if there is one.
@@ -90,13 +100,21 @@ impl<'p, 'l, 'b, 'o, G: Grade> Board<'p, 'l, 'b, 'o, G> {
     pub(crate) fn check_point(&self, point: u16) -> Result<(), Fault>
         ensures { λ r. ⌜ Checked (pointCheck (viewOf (now (self .entry))) point ∷ []) r ⌝ }
     {
-        if (point as usize) < self.point_count { Ok(()) } else { Err(Fault::NoPoint(point)) }
+        if (point as usize) < self.point_count {
+            Ok(())
+        } else {
+            Err(Fault::NoPoint(point))
+        }
     }
 
     pub(crate) fn check_link(&self, link: u16) -> Result<(), Fault>
         ensures { λ r. ⌜ Checked (linkCheck (viewOf (now (self .entry))) link ∷ []) r ⌝ }
     {
-        if (link as usize) < self.link_count { Ok(()) } else { Err(Fault::NoLink(link)) }
+        if (link as usize) < self.link_count {
+            Ok(())
+        } else {
+            Err(Fault::NoLink(link))
+        }
     }
 
     // The first of two ends that is not on the board is told.

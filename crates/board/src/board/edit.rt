@@ -8,7 +8,6 @@ ghost use Rattle.board.specs.Boards.{newBoard};
 ghost use Rattle.board.specs.Edits.{AddsPoint, AddsTrack, AddsVia, SetsMark, withLink};
 ghost use Rattle.tables.specs.Tables.{Ends};
 ghost use Rattle.board.specs.Views.{viewOf};
-
 use crate::board::Board;
 use crate::point::Point;
 use faults::Fault;
@@ -29,7 +28,16 @@ impl<'p, 'l, 'b, 'o, G: Grade> Board<'p, 'l, 'b, 'o, G> {
     ) -> Board<'p, 'l, 'b, 'o, G>
         ensures { λ r. ⌜ viewOf r ≡ newBoard (closedOf stackup) (now (points .entry)) (now (links .entry)) (now (labels .entry)) (now (outcomes .entry)) ⌝ }
     {
-        Board { stackup, points, point_count: 0, links, link_count: 0, labels, outcomes, standing: None }
+        Board {
+            stackup,
+            points,
+            point_count: 0,
+            links,
+            link_count: 0,
+            labels,
+            outcomes,
+            standing: None,
+        }
     }
 
     // Adds a point, and answers with its number.

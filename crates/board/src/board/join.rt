@@ -5,8 +5,8 @@ ghost use Prim.Native.Nat.{ℕ, _+_, _<_};
 ghost use Rattle.std.specs.Options.{Cases as BySome};
 ghost use Rattle.stackup.specs.Stacks.{spanAt};
 ghost use Rattle.board.specs.Edits.{Allows, JoinsTrack, JoinsVia, inLine, trackLength, trackOn, viaOver, distance as farFrom};
+ghost use Rattle.board.specs.Points.{pointAt};
 ghost use Rattle.board.specs.Views.{viewOf};
-
 use crate::board::Board;
 use crate::point::Point;
 use faults::Fault;
@@ -20,7 +20,11 @@ fn distance(a: u16, b: u16) -> u32
     ensures value { λ r. ⌜ r ≡ farFrom a b ⌝ }
     ensures bound { λ r. ⌜ r < 65536 ⌝ }
 {
-    if a < b { (b - a) as u32 } else { (a - b) as u32 }
+    if a < b {
+        (b - a) as u32
+    } else {
+        (a - b) as u32
+    }
 }
 
 // The length of a track, if two points of one layer share x or y.
@@ -40,17 +44,39 @@ fn track_on(layer: Layer, length: u32, from: u16, to: u16, gap: u16) -> Link
     ensures { λ r. ⌜ r ≡ trackOn layer length from to gap ⌝ }
 {
     let price = length * layer.price_rate as u32;
-    Link { delay: length * layer.delay_rate as u32, cost: LinkCost { price, gap }, from, to, open: true }
+    Link {
+        delay: length * layer.delay_rate as u32,
+        cost: LinkCost { price, gap },
+        from,
+        to,
+        open: true,
+    }
 }
 
 // An open via over a span.
 fn via_over(span: Span, from: u16, to: u16, gap: u16) -> Link
     ensures { λ r. ⌜ r ≡ viaOver span from to gap ⌝ }
 {
-    Link { delay: span.delay, cost: LinkCost { price: span.price, gap }, from, to, open: true }
+    Link {
+        delay: span.delay,
+        cost: LinkCost {
+            price: span.price,
+            gap,
+        },
+        from,
+        to,
+        open: true,
+    }
 }
 
 impl<'p, 'l, 'b, 'o, G: Grade> Board<'p, 'l, 'b, 'o, G> {
+    fn point_at(&self, point: u16) -> Point
+        requires { ⌜ point < now self .«point_count» ⌝ }
+        ensures { λ r. ⌜ r ≡ pointAt (viewOf (now (self .entry)) .points) point ⌝ }
+    {
+        self.points[point as usize]
+    }
+
     // The track between two points of the board, if one may join them.
     pub(crate) fn track_between(&self, from: u16, to: u16, gap: u16) -> Result<Link, Fault>
         requires from { ⌜ from < now self .«point_count» ⌝ }
@@ -60,8 +86,8 @@ impl<'p, 'l, 'b, 'o, G: Grade> Board<'p, 'l, 'b, 'o, G> {
         if from == to {
             return Err(Fault::NotJoinable(to));
         }
-        let p = self.points[from as usize];
-        let q = self.points[to as usize];
+        let p = self.point_at(from);
+        let q = self.point_at(to);
         let Some(length) = track_length(p, q) else {
             return Err(Fault::NotJoinable(to));
         };
@@ -75,10 +101,11 @@ impl<'p, 'l, 'b, 'o, G: Grade> Board<'p, 'l, 'b, 'o, G> {
         requires to { ⌜ to < now self .«point_count» ⌝ }
         ensures { λ r. ⌜ BySome r ((k : ℕ) → Allows (viewOf (now (self .entry)) .stack .spans) (viewOf (now (self .entry)) .points) from to k → ⊥) (λ s. ((k : ℕ) × Allows (viewOf (now (self .entry)) .stack .spans) (viewOf (now (self .entry)) .points) from to k × (s ≡ spanAt (viewOf (now (self .entry)) .stack .spans) k))) ⌝ }
     {
-        let p = self.points[from as usize];
-        let q = self.points[to as usize];
+        let p = self.point_at(from);
+        let q = self.point_at(to);
         if p.x == q.x && p.y == q.y {
-            self.stackup.span(p.layer.min(q.layer), p.layer.max(q.layer))
+            self.stackup
+                .span(p.layer.min(q.layer), p.layer.max(q.layer))
         } else {
             None
         }

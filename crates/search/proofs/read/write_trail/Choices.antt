@@ -9,4 +9,4 @@ abbrev pub Inv-loop-i : given.InvT-loop-i
 Inv-loop-i g l =
     let n = g .G·Grade .initial in
     trail n (l .links) (l .buckets) (l .labels) (l .point) (l .bucket) (l .count) ++ drop (l .count) (l .entry .list)
-      ≡ trail n (l .links) (l .buckets) (l .labels) (l .at) (l .within) (l .i) ++ drop (l .i) (l .list)
+    ≡ trail n (l .links) (l .buckets) (l .labels) (l .at) (l .within) (l .i) ++ drop (l .i) (l .list)

@@ -6,5 +6,5 @@ returns g c =
       labels = rw (← c .empty-label .ensures, ← c .places .ensures) (c .wipe .ensures);
       outcomes = rw (← c .unreached .ensures) (c .wipe-2 .ensures);
       queue = c .clear .ensures .cleared;
-      ready = c .clear .ensures .ready
+      ready = c .clear .ensures .ready;
     }

@@ -25,10 +25,22 @@ ghost-self g c =
     let t = now (b .points) in
     let passed = c .in-Continue-check-new-point .ensures tt in
     let left = place-left t _ 4096 (b .pointsFit) (passed .0) in
-    let signal = signal-from (closedOf (b .stackup) .layers) (c .args .layer) (passed .1 .1 .0) (passed .1 .1 .1 .0) in
-    (simp length-set (omega (arith, left .0)), (omega (arith, left .1), (b .linksFit, (b .fewLinks,
-    (on-signal-more (closedOf (b .stackup) .layers) t (b .«point_count») _ (left .0) signal (b .onSignal),
-    (joined-wider (b .«point_count») (b .«point_count» + 1) _ (omega arith) (b .joined), tt))))))
+    let signal = signal-from (closedOf (b .stackup) .layers) (c .args .layer) (passed .1 .1 .0) (passed .1 .1 .1 .0) in (
+      simp length-set (omega (arith, left .0)),
+      (
+        omega (arith, left .1),
+        (
+          b .linksFit,
+          (
+            b .fewLinks,
+            (
+              on-signal-more (closedOf (b .stackup) .layers) t (b .«point_count») _ (left .0) signal (b .onSignal),
+              (joined-wider (b .«point_count») (b .«point_count» + 1) _ (omega arith) (b .joined), tt),
+            ),
+          ),
+        ),
+      ),
+    )
 
 pub returns : need.returns
 returns g c =

@@ -12,9 +12,22 @@ pub ghost-self : need.ghost-self
 ghost-self g c =
     let b = c .args .self .now in
     let u = used (now (b .links)) (b .«link_count») (b .linksFit) in
-    let within : c .args .link < b .«link_count» = omega (arith, u, c .in-Continue-check-link .ensures tt .0) in
-    (b .pointsFit, (b .fewPoints, (simp length-set (b .linksFit), (b .fewLinks, (b .onSignal,
-    (joined-marked (b .«point_count») (now (b .links)) (b .«link_count») (c .args .link) (c .args .open) within (b .joined), tt))))))
+    let within : c .args .link < b .«link_count» = omega (arith, u, c .in-Continue-check-link .ensures tt .0) in (
+      b .pointsFit,
+      (
+        b .fewPoints,
+        (
+          simp length-set (b .linksFit),
+          (
+            b .fewLinks,
+            (
+              b .onSignal,
+              (joined-marked (b .«point_count») (now (b .links)) (b .«link_count») (c .args .link) (c .args .open) within (b .joined), tt),
+            ),
+          ),
+        ),
+      ),
+    )
 
 pub returns : need.returns
 returns g c =
