@@ -1,0 +1,5 @@
+pub mod Placing
+pub mod Loading
+pub mod Sweeping
+pub mod Framing
+pub mod Filled
