@@ -1,5 +1,5 @@
 -- How the tables of a bucket change, step by step.
-use mathlib.Core.Path.{_≡_, refl, ap, sym, _∙_}
+use mathlib.Core.Path.{_≡_, refl, ap, sym, subst, _∙_}
 use mathlib.Core.Bool.{Bool, true, false, cond, not}
 use mathlib.Core.Logic.{_⊎_, inl, inr}
 use mathlib.Core.List.{List}
@@ -31,6 +31,7 @@ use Rattle.buckets.specs.Results.{Frame}
 use Rattle.buckets.proofs.Placing.{bucket-in, put-here, put-cases}
 use Rattle.buckets.proofs.Loading.{offered, loaded-aside, loaded-offered, loaded-settled}
 use Rattle.buckets.proofs.Framing.{frame-same, frame-put}
+use Rattle.buckets.proofs.Soundness.{waiting-kept, last-later, keeps-put, keeps-swept, sound-put, sound-extended, sound-settled, sound-swept, sound-begin}
 
 -- a candidate is chosen only where one may still come
 chosen-open : {G : Type 0} (good : G → G → Bool) (new old : Label G) (m : Mark) → chosenOver good new old m ≡ true → isOpen m ≡ true
@@ -72,7 +73,16 @@ module _ {G : Type 0} (good : G → G → Bool) (initial : G) (after : G → Lin
     hb = bucket-in p (new .delay) below
 
     books-tried : Books initial p links i os put
-    books-tried = record { within = x .filling .books .within; given = x .filling .books .given }
+    books-tried =
+        let k = x .filling .books in
+        let free : labelIn initial p labels to b .mark ≡ Kept → ⊥ = λ e. both-ways true (sym was ∙ ap isOpen e) refl in
+        record {
+          within = k .within;
+          given = k .given;
+          sound = sound-put initial p links labels room to b ht hb new free i (k .sound)
+              (sound-extended initial p links after labels i v number to label joined hi hv hn goes (x .stands) (x .kept) (k .sound v i hv hi));
+          last = last-later initial p links labels put (keeps-put initial p links labels room to b ht hb new free) os (k .within) (k .last);
+        }
 
     stands-tried : labelIn initial p put v i ≡ label
     stands-tried = elim (put-cases initial p labels to b new ht hb room v i hi) [
@@ -152,6 +162,14 @@ module _ {G : Type 0} (good : G → G → Bool) (initial : G) (p : Plan) (links 
   books-settled os′ e = record {
     within = λ u l. elim (given-cases os′ kept e u) [ inl h ↦ omega (arith, h .2, hi) | inr h ↦ omega (arith, h, t .books .within u l) ];
     given = λ u l. elim (given-cases os′ kept e u) [ inl h ↦ omega (arith, h .2) | inr h ↦ omega (arith, h, t .books .given u l) ];
+    sound = sound-put initial p links labels room v i (t .point) hi settled (waiting-kept _ (t .due)) i (t .books .sound)
+        (sound-settled initial p links labels i v kept (labelIn initial p labels v i) (t .due) (t .books .sound v i (t .point) hi));
+    last = λ u l. elim (given-cases os′ kept e u) [
+      | inl h ↦ inl (ap (λ a. labelIn initial p set-labels a (outcomeAt os′ u .given) .mark) (h .0) ∙ ap (λ c. labelIn initial p set-labels v c .mark) (h .2)
+          ∙ ap (λ (x : Label G). x .mark) here ∙ ap (λ k. cond k Kept Dropped) (h .1))
+      | inr h ↦ subst (λ (z : ℕ). (labelAt initial set-labels (u * p .buckets + z) .mark ≡ Kept) ⊎ (z ≡ 0)) (sym h)
+          (last-later initial p links labels set-labels (keeps-put initial p links labels room v i (t .point) hi settled (waiting-kept _ (t .due))) os (t .books .within) (t .books .last) u l)
+    ];
   }
 
   pub settle-fill : (os′ : List Outcome) (labels′ : List (Label G)) → Settled good initial (p .buckets) i v os labels kept os′ labels′
@@ -173,7 +191,12 @@ module _ {G : Type 0} (initial : G) (p : Plan) (links : List Link) (i : ℕ) (hi
 
   books-swept : (labels′ : List (Label G)) (slots : List (Slot G)) → Filling initial p links i os labels slots → NoneWaits slots → Swept initial p i (p .points) labels labels′
       → Books initial p links (i + 1) os labels′
-  books-swept labels′ slots f idle s = record { within = f .books .within; given = λ v l. omega (arith, f .books .given v l) }
+  books-swept labels′ slots f idle s = record {
+    within = f .books .within;
+    given = λ v l. omega (arith, f .books .given v l);
+    sound = sound-swept initial p links i hi labels labels′ s (λ v l w. both-ways _ (idle v) (f .loaded .queued v l w)) (f .books .sound);
+    last = last-later initial p links labels labels′ (keeps-swept initial p links i hi labels labels′ s) os (f .books .within) (f .books .last);
+  }
 
   pub fill-ready : (labels′ : List (Label G)) (slots : List (Slot G)) → Filling initial p links i os labels slots → NoneWaits slots → Swept initial p i (p .points) labels labels′
       → Ready initial p links (i + 1) os labels′ slots
@@ -186,7 +209,12 @@ module _ {G : Type 0} (initial : G) (p : Plan) (links : List Link) (os : List Ou
   some = omega (arith, p .cut)
 
   books-begin : Books initial p links 0 os (set labels (p .source * p .buckets + 0) (marked Waiting (emptyLabel initial)))
-  books-begin = record { within = λ v l. omega (arith, none-given v l, some); given = λ v l. omega (arith, none-given v l) }
+  books-begin = record {
+    within = λ v l. omega (arith, none-given v l, some);
+    given = λ v l. omega (arith, none-given v l);
+    sound = sound-begin initial p links labels room some (λ v b hv hb. blank (v * p .buckets + b) (place-below v (p .points) b (p .buckets) hv hb));
+    last = λ v l. inr (none-given v l);
+  }
 
   pub begin-ready : (slots : List (Slot G)) → NoneWaits slots → p .points ≤ length slots → Ready initial p links 0 os (set labels (p .source * p .buckets + 0) (marked Waiting (emptyLabel initial))) slots
   begin-ready slots idle seats = record { books = books-begin; idle = idle; seats = seats }

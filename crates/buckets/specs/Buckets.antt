@@ -1,8 +1,9 @@
 -- How the buckets are filled: what holds between the steps.
 use mathlib.Core.Path.{_≡_}
 use mathlib.Core.Bool.{Bool, true, false, not}
+use mathlib.Core.Logic.{_⊎_}
 use mathlib.Core.List.{List}
-use Prim.Native.Nat.{ℕ, _+_, _*_, _≤_, _<_}
+use Prim.Native.Nat.{ℕ, _+_, _*_, _/_, _≤_, _<_}
 use lib.ListN.{length}
 use Rattle.queues.specs.declared.slot.Slot.{Slot}
 use Rattle.queues.specs.Slots.{at, waits, NoneWaits}
@@ -13,6 +14,7 @@ use Rattle.tables.specs.declared.table.Mark.{Mark}
 use Rattle.tables.specs.declared.table.Mark.the-variants.{Empty, Kept, Waiting, Dropped}
 use Rattle.tables.specs.declared.table.Outcome.{Outcome}
 use Rattle.tables.specs.Tables.{labelAt, outcomeAt, isOpen, emptyLabel}
+use Rattle.buckets.specs.Results.{Extends, GivenKept}
 
 -- the label of a point in a bucket
 abbrev pub labelIn : {G : Type 0} → G → Plan → List (Label G) → ℕ → ℕ → Label G
@@ -31,10 +33,20 @@ pub record Loaded {G : Type 0} (initial : G) (p : Plan) (b m : ℕ) (labels : Li
   pub pending : (s : ℕ) → waits (at slots s) ≡ true → (s < m) × (labelIn initial p labels s b .mark ≡ Waiting)
   pub queued : (v : ℕ) → v < m → labelIn initial p labels v b .mark ≡ Waiting → waits (at slots v) ≡ true
 
+-- what holds of the label l of point v in bucket b while the buckets below i are done: without a mark it is blank,
+-- else it stands in the bucket of its delay and extends a kept label; in a bucket that is done it neither waits nor is dropped
+pub record Sound {G : Type 0} (initial : G) (p : Plan) (links : List Link) (i : ℕ) (labels : List (Label G)) (v b : ℕ) (l : Label G) : Type 0 where
+  pub blank : l .mark ≡ Empty → l ≡ emptyLabel initial
+  pub placed : (l .mark ≡ Empty → ⊥) → l .delay / p .width ≡ b
+  pub extends : (l .mark ≡ Empty → ⊥) → 0 < l .count → Extends initial links (p .points) (p .buckets) labels v l
+  pub done : b < i → (l .mark ≡ Empty) ⊎ (l .mark ≡ Kept)
+
 -- what holds of the tables while the buckets below i are done
 pub record Books {G : Type 0} (initial : G) (p : Plan) (links : List Link) (i : ℕ) (os : List Outcome) (labels : List (Label G)) : Type 0 where
   pub within : (v : ℕ) → v < p .points → outcomeAt os v .given < p .buckets
   pub given : (v : ℕ) → v < p .points → outcomeAt os v .given ≤ i
+  pub sound : (v b : ℕ) → v < p .points → b < p .buckets → Sound initial p links i labels v b (labelIn initial p labels v b)
+  pub last : GivenKept initial (p .points) (p .buckets) os labels
 
 -- while the places of bucket i are settled
 pub record Filling {G : Type 0} (initial : G) (p : Plan) (links : List Link) (i : ℕ) (os : List Outcome) (labels : List (Label G)) (slots : List (Slot G)) : Type 0 where

@@ -3,7 +3,7 @@ ghost use mathlib.Core.Path.{_≡_};
 ghost use Prim.Native.Nat.{ℕ, _+_, _*_, _<_, _≤_};
 ghost use lib.ListN.{length};
 ghost use Rattle.buckets.specs.Buckets.{labelIn, closedIn, SameOpen, Loaded, Filling, Taking, Ready, Swept};
-ghost use Rattle.buckets.specs.Results.{Frame};
+ghost use Rattle.buckets.specs.Results.{Frame, KeptOrBlank, Chained, GivenKept};
 ghost use Rattle.queues.specs.Slots.{NoneWaits};
 ghost use Rattle.tables.specs.Tables.{labelAt, outcomeAt, emptyLabel, Joined};
 ghost use Rattle.tables.specs.Tallies.{tally};
@@ -190,6 +190,9 @@ pub fn fill_buckets<G: Grade, Q: Queue<G>>(
     ensures ready { λ _. ⌜ Q·Queue .ready (now (queue .exit)) ⌝ }
     ensures given { λ _. ⌜ ((v : ℕ) → v < plan .points → outcomeAt (now (outcomes .exit)) v .given < plan .buckets) ⌝ }
     ensures frame { λ _. ⌜ Frame (G·Grade .initial) (plan .points) (plan .buckets) (now (outcomes .entry)) (now (labels .entry)) (now (outcomes .exit)) (now (labels .exit)) ⌝ }
+    ensures settled { λ _. ⌜ KeptOrBlank (G·Grade .initial) (plan .points) (plan .buckets) (now (labels .exit)) ⌝ }
+    ensures chained { λ _. ⌜ Chained (G·Grade .initial) (now (links .entry)) (plan .points) (plan .buckets) (now (labels .exit)) ⌝ }
+    ensures given_kept { λ _. ⌜ GivenKept (G·Grade .initial) (plan .points) (plan .buckets) (now (outcomes .exit)) (now (labels .exit)) ⌝ }
 {
     labels[plan.place(plan.source, 0)] = Label {
         mark: Mark::Waiting,

@@ -4,6 +4,7 @@ use Prim.Native.Nat.{ℕ, _<_}
 use native.Mathlib.Omega.{arith}
 use Rattle.buckets.specs.Buckets.{Ready}
 use Rattle.buckets.proofs.Filled.{begin-ready}
+use Rattle.buckets.proofs.Soundness.{kept-empty, sound-end}
 use Rattle.buckets.proofs.Framing.{frame-same, frame-then, frame-put}
 use Rattle.buckets.proofs.fill.fill_buckets.Needs as need
 
@@ -40,11 +41,17 @@ returns g c =
     let p = a .plan in
     let i = g .G·Grade .initial in
     let l = c .loop-bucket in
+    let e : l .bucket ≡ p .buckets = omega arith in
+    let some : 0 < p .buckets = omega (arith, p .cut) in
+    let r = subst (λ (x : ℕ). Ready i p (a .links .now) x (l .outcomes) (l .labels) (g .Q·Queue .model (l .queue) .slots)) e (l .inv .0) in
     record {
-      idle = l .inv .0 .idle;
+      idle = r .idle;
       slots = l .inv .1;
       ready = l .inv .3;
-      given = l .inv .0 .books .within;
+      given = r .books .within;
       frame = frame-then i (p .points) (p .buckets) (a .outcomes .now) (a .outcomes .now) (l .outcomes) (a .labels .now) _ (l .labels)
           (frame-put i (p .points) (p .buckets) (a .outcomes .now) (a .labels .now) (c .place .result) _ (c .place .ensures .1)) (l .inv .2);
+      settled = sound-end i p (a .links .now) (l .labels) some (r .books .sound);
+      chained = λ v b hv hb k. r .books .sound v b hv hb .extends (kept-empty _ k);
+      given-kept = r .books .last;
     }
