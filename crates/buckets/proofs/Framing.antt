@@ -11,7 +11,7 @@ use Rattle.std.proofs.shelf.Tests.{cases-eq}
 use Rattle.tables.specs.declared.plan.Plan.{Plan}
 use Rattle.tables.specs.declared.table.Label.{Label}
 use Rattle.tables.specs.declared.table.Outcome.{Outcome}
-use Rattle.tables.specs.Tables.{labelAt, outcomeAt, reachedAt, delayAt, emptyLabel, unreachedOutcome}
+use Rattle.tables.specs.Tables.{outcomeAt, reachedAt, delayAt, emptyLabel, unreachedOutcome}
 use Rattle.tables.proofs.Cuts.{place-below}
 use Rattle.labels.specs.Steps.{Settled, regiven}
 use Rattle.buckets.specs.Buckets.{Swept}

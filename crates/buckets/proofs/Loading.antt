@@ -1,7 +1,7 @@
 -- How the waiting slots follow the waiting labels of a bucket.
 use mathlib.Core.Path.{_≡_, refl, ap, sym, _∙_}
-use mathlib.Core.Bool.{Bool, true, false, cond}
-use mathlib.Core.Logic.{_⊎_, inl, inr}
+use mathlib.Core.Bool.{Bool, true, false}
+use mathlib.Core.Logic.{inl, inr}
 use mathlib.Core.List.{List}
 use Prim.Native.Nat.{ℕ, _+_, _*_, _≤_, _<_}
 use native.Mathlib.Omega.{arith}
@@ -21,11 +21,10 @@ use Rattle.tables.specs.declared.table.Link.{Link}
 use Rattle.tables.specs.declared.table.Mark.{Mark}
 use Rattle.tables.specs.declared.table.Mark.the-variants.{Empty, Kept, Waiting, Dropped}
 use Rattle.tables.specs.declared.table.Outcome.{Outcome}
-use Rattle.tables.specs.Tables.{isOpen}
 use Rattle.labels.specs.Candidates.{keyOf}
-use Rattle.labels.specs.Steps.{OfferedIf, marked}
+use Rattle.labels.specs.Steps.{OfferedIf}
 use Rattle.buckets.specs.Buckets.{labelIn, Loaded, Filling, Taking}
-use Rattle.buckets.proofs.Placing.{put-here, put-cases}
+use Rattle.buckets.proofs.Placing.{put-cases}
 
 -- ---- slots
 yields-not : {G : Type 0} (good : G → G → Bool) (x : Slot G) (k : Key G) → yields good x k ≡ false → waits x ≡ true

@@ -8,7 +8,7 @@ use native.Mathlib.Omega.{arith}
 use native.Mathlib.Nat.{zero-div}
 use lib.ListN.{length, set}
 use Rattle.std.proofs.shelf.Bits.{div-add-mod', mod-below, div-below, le-div}
-use Rattle.std.proofs.shelf.Tests.{both-ways, cases-eq}
+use Rattle.std.proofs.shelf.Tests.{cases-eq}
 use Rattle.std.specs.declared.option.Option.the-variants.{Some}
 use Rattle.grades.specs.declared.LinkCost.{LinkCost}
 use Rattle.tables.specs.declared.plan.Plan.{Plan}

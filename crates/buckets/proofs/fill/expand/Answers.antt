@@ -1,9 +1,8 @@
 use borrow.Author.Needs.{needs}
 use mathlib.Core.Path.{_≡_, refl, sym, ap, _∙_}
-use Prim.Native.Nat.{ℕ, _<_, _≤_, _+_, _*_, _^_}
+use Prim.Native.Nat.{_≤_, _*_}
 use lib.ListN.{length}
-use native.Mathlib.Omega.{arith}
-use Rattle.std.specs.declared.option.Option.the-variants.{Some, None}
+use Rattle.std.specs.declared.option.Option.the-variants.{Some}
 use Rattle.tables.specs.declared.table.Label.{Label}
 use Rattle.tables.specs.Tables.{linkAt, openEnd}
 use Rattle.tables.proofs.Joins.{joined-end}

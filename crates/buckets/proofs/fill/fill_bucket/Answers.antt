@@ -1,5 +1,4 @@
-use borrow.Author.Needs.{needs}
-use mathlib.Core.Path.{_≡_, _∙_}
+use mathlib.Core.Path.{_∙_}
 use Rattle.buckets.proofs.Filled.{ready-fill, fill-ready}
 use Rattle.buckets.proofs.Framing.{frame-then, frame-swept}
 use Rattle.buckets.proofs.fill.fill_bucket.Needs as need

@@ -1,6 +1,6 @@
 use borrow.Author.Needs.{needs}
 use mathlib.Core.Path.{_≡_, refl, _∙_}
-use mathlib.Core.Bool.{true, false}
+use mathlib.Core.Bool.{true}
 use native.Mathlib.Omega.{arith}
 use Rattle.buckets.proofs.Filled.{settle-fill, same-closed}
 use Rattle.buckets.proofs.Framing.{frame-then, frame-settled}
