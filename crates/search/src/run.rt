@@ -6,6 +6,8 @@ ghost use Rattle.queues.specs.Slots.{cleared};
 ghost use Rattle.search.specs.Results.{Searched};
 ghost use Rattle.search.specs.Answers.{Answered, Unmoved};
 ghost use Rattle.tables.specs.Tables.{Joined, Wiped, emptyLabel, unreachedOutcome};
+use buckets::fill::fill_buckets;
+use delays::delay::least_delays;
 use faults::Fault;
 use grades::Grade;
 use queues::queue::Queue;
@@ -59,9 +61,11 @@ fn explore<G: Grade, Q: Queue<G>>(
     ensures ready { λ _. ⌜ Q·Queue .ready (now (queue .exit)) ⌝ }
 {
     reset(plan, labels, outcomes, queue);
+    let reached = least_delays(plan, links, outcomes, queue);
+    fill_buckets(plan, links, labels, outcomes, queue);
     Found {
         width: plan.width,
-        reached: 0,
+        reached,
         taken: queue.taken(),
     }
 }
