@@ -1,5 +1,6 @@
 // Searching a board, and reading the routes that it found.
 ghost use mathlib.Core.Path.{_≡_};
+ghost use Prim.Native.Nat.{_≤_};
 ghost use lib.ListN.{length};
 ghost use Rattle.board.specs.Routes.{Searches, Reads, Untouched};
 ghost use Rattle.board.specs.Views.{viewOf};
@@ -43,6 +44,14 @@ impl<'p, 'l, 'b, 'o, G: Grade> Board<'p, 'l, 'b, 'o, G> {
         let (plan, found) = answer?;
         self.standing = Some(plan);
         Ok(found)
+    }
+
+    // How many points the board has.
+    pub fn point_count(&self) -> usize
+        ensures count { λ r. ⌜ r ≡ length (viewOf (now (self .entry)) .points) ⌝ }
+        ensures bound { λ r. ⌜ r ≤ 4096 ⌝ }
+    {
+        self.point_count
     }
 
     // Writes the links of the route given at a point, source first, and answers with its count, delay and grade.

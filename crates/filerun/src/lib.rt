@@ -1,0 +1,3 @@
+// A board file run against a board, as one text.
+pub mod calls;
+pub mod run;
