@@ -51,17 +51,22 @@ fn say_refused(heap: Global, out: &mut String, fault: Fault, place: usize) -> Re
     say(heap, out, Line::Refused { number: fault.number(), figure: fault.figure(), place })
 }
 
+// The line of a point after a search.
+fn point_line(board: &Board<Price>, point: u16) -> Line {
+    // a route visits no point twice, so it has fewer links than the board has places for points
+    let mut list = [0; POINTS];
+    let at = point as usize;
+    match board.read(point, &mut list) {
+        Ok(route) => Line::Route { point: at, delay: route.delay, price: route.grade.value, count: route.count },
+        Err(_) => Line::Unreached { point: at },
+    }
+}
+
 // A line for the search, and one for each point of the board.
 fn say_routes(heap: Global, out: &mut String, board: &Board<Price>, found: Found) -> Result<(), AllocError> {
     say(heap, out, Line::Summary { width: found.width, reached: found.reached, taken: found.taken })?;
-    // a route visits no point twice, so it has fewer links than the board has places for points
-    let mut list = [0u16; POINTS];
     for point in 0..board.point_count() {
-        let line = match board.read(point as u16, &mut list) {
-            Ok(route) => Line::Route { point, delay: route.delay, price: route.grade.value, count: route.count },
-            Err(_) => Line::Unreached { point },
-        };
-        say(heap, out, line)?;
+        say(heap, out, point_line(board, point as u16))?;
     }
     Ok(())
 }
