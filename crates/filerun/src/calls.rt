@@ -1,6 +1,4 @@
 // The call that each record stands for.
-ghost use mathlib.Core.Path.{_≡_};
-ghost use Rattle.queues.specs.Slots.{Model};
 use board::board::Board;
 use boardfile::records::Record;
 use faults::Fault;
@@ -13,18 +11,27 @@ use tables::table::Found;
 
 // Whether the stackup is still being built.
 #[derive(Clone, Copy)]
-pub enum Building {
+pub(crate) enum Building {
     Open,
     Closed,
 }
 
 // Makes the call of a record on an open stackup.
-pub fn build(stackup: &mut Stackup, record: Record) -> Result<Building, Fault> {
+pub(crate) fn build(stackup: &mut Stackup, record: Record) -> Result<Building, Fault> {
     match record {
-        Record::Layer { kind, delay_rate, price_rate } => {
+        Record::Layer {
+            kind,
+            delay_rate,
+            price_rate,
+        } => {
             stackup.add_layer(kind, delay_rate, price_rate)?;
         }
-        Record::Span { low, high, delay, price } => {
+        Record::Span {
+            low,
+            high,
+            delay,
+            price,
+        } => {
             stackup.add_span(low, high, delay, price)?;
         }
         Record::Close => return Ok(Building::Closed),
@@ -35,7 +42,11 @@ pub fn build(stackup: &mut Stackup, record: Record) -> Result<Building, Fault> {
 }
 
 // Makes the call of a record on a board, and answers with what a search found.
-pub fn route<Q: Queue<Price>>(board: &mut Board<Price>, queue: &mut Q, record: Record) -> Result<Option<Found>, Fault> {
+pub(crate) fn route<Q: Queue<Price>>(
+    board: &mut Board<Price>,
+    queue: &mut Q,
+    record: Record,
+) -> Result<Option<Found>, Fault> {
     match record {
         Record::Point { x, y, layer } => {
             board.add_point(x, y, layer)?;
@@ -48,7 +59,11 @@ pub fn route<Q: Queue<Price>>(board: &mut Board<Price>, queue: &mut Q, record: R
         }
         Record::Block { link } => board.block(link)?,
         Record::Free { link } => board.free(link)?,
-        Record::Search { source, bound, tolerance } => {
+        Record::Search {
+            source,
+            bound,
+            tolerance,
+        } => {
             return Ok(Some(board.search(queue, source, bound, tolerance)?));
         }
         // no other kind is read at this stage

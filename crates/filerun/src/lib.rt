@@ -1,3 +1,5 @@
 // A board file run against a board, as one text.
-pub mod calls;
+mod calls;
 pub mod run;
+#[cfg(test)]
+mod tests;

@@ -36,8 +36,11 @@ use tables::wipe::unreached;
 
 // The longest file that is read, in bytes.
 pub const LIMIT: usize = 32_768;
+
 const POINTS: usize = 64;
+
 const LINKS: usize = 256;
+
 const LABELS: usize = 2_000;
 
 fn say(heap: Global, out: &mut String, line: Line) -> Result<(), AllocError>
@@ -47,8 +50,21 @@ fn say(heap: Global, out: &mut String, line: Line) -> Result<(), AllocError>
     out.push_str(said.as_str())
 }
 
-fn say_refused(heap: Global, out: &mut String, fault: Fault, place: usize) -> Result<(), AllocError> {
-    say(heap, out, Line::Refused { number: fault.number(), figure: fault.figure(), place })
+fn say_refused(
+    heap: Global,
+    out: &mut String,
+    fault: Fault,
+    place: usize,
+) -> Result<(), AllocError> {
+    say(
+        heap,
+        out,
+        Line::Refused {
+            number: fault.number(),
+            figure: fault.figure(),
+            place,
+        },
+    )
 }
 
 // The line of a point after a search.
@@ -57,14 +73,32 @@ fn point_line(board: &Board<Price>, point: u16) -> Line {
     let mut list = [0; POINTS];
     let at = point as usize;
     match board.read(point, &mut list) {
-        Ok(route) => Line::Route { point: at, delay: route.delay, price: route.grade.value, count: route.count },
+        Ok(route) => Line::Route {
+            point: at,
+            delay: route.delay,
+            price: route.grade.value,
+            count: route.count,
+        },
         Err(_) => Line::Unreached { point: at },
     }
 }
 
 // A line for the search, and one for each point of the board.
-fn say_routes(heap: Global, out: &mut String, board: &Board<Price>, found: Found) -> Result<(), AllocError> {
-    say(heap, out, Line::Summary { width: found.width, reached: found.reached, taken: found.taken })?;
+fn say_routes(
+    heap: Global,
+    out: &mut String,
+    board: &Board<Price>,
+    found: Found,
+) -> Result<(), AllocError> {
+    say(
+        heap,
+        out,
+        Line::Summary {
+            width: found.width,
+            reached: found.reached,
+            taken: found.taken,
+        },
+    )?;
     for point in 0..board.point_count() {
         say(heap, out, point_line(board, point as u16))?;
     }
@@ -72,7 +106,12 @@ fn say_routes(heap: Global, out: &mut String, board: &Board<Price>, found: Found
 }
 
 // Reads up to the close of the stackup, and answers with the place after it; none if reading ends before.
-fn run_stackup(heap: Global, out: &mut String, file: &[u8], stackup: &mut Stackup) -> Result<Option<usize>, AllocError> {
+fn run_stackup(
+    heap: Global,
+    out: &mut String,
+    file: &[u8],
+    stackup: &mut Stackup,
+) -> Result<Option<usize>, AllocError> {
     let mut at = 0;
     while at < file.len() {
         match decode(Stage::Stackup, file, at) {
@@ -123,9 +162,25 @@ fn run_board<Q: Queue<Price>>(
 }
 
 // Opens a board on the stackup over tables of its own, and reads on from `start`.
-fn run_closed(heap: Global, out: &mut String, file: &[u8], start: usize, stackup: ClosedStackup) -> Result<(), AllocError> {
-    let mut points = [Point { x: 0, y: 0, layer: 0 }; POINTS];
-    let blank = Link { delay: 0, cost: LinkCost { price: 0, gap: 0 }, from: 0, to: 0, open: false };
+fn run_closed(
+    heap: Global,
+    out: &mut String,
+    file: &[u8],
+    start: usize,
+    stackup: ClosedStackup,
+) -> Result<(), AllocError> {
+    let mut points = [Point {
+        x: 0,
+        y: 0,
+        layer: 0,
+    }; POINTS];
+    let blank = Link {
+        delay: 0,
+        cost: LinkCost { price: 0, gap: 0 },
+        from: 0,
+        to: 0,
+        open: false,
+    };
     let mut links = [blank; LINKS];
     let mut labels = [empty_label(); LABELS];
     let mut outcomes = [unreached(); POINTS];
@@ -140,7 +195,14 @@ pub fn run(heap: Global, file: &[u8]) -> Result<String, AllocError>
     ensures { λ r. ⌜ made r (λ s. (32768 < length (now (file .entry)) → string-bytes s ≡ lineText (Refused 13 32768 32768))) ⌝ }
 {
     if file.len() > LIMIT {
-        return text(heap, Line::Refused { number: 13, figure: LIMIT as u64, place: LIMIT });
+        return text(
+            heap,
+            Line::Refused {
+                number: 13,
+                figure: LIMIT as u64,
+                place: LIMIT,
+            },
+        );
     }
     let mut out = String::new(heap);
     let mut stackup = Stackup::new(heap)?;

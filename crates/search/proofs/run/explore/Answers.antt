@@ -14,20 +14,30 @@ use Rattle.search.proofs.run.explore.Needs as need
 pub least-delays-reached-requires : need.least-delays-reached-requires
 least-delays-reached-requires g c κs =
     let r = c .reset .ensures in
-    let m = g .Q·Queue .model (c .args .queue .now) in
-    ( c .pre .0, search needs
-    , omega (arith, ap (λ (x : Model _). length (x .slots)) (r .queue), cleared-length m, c .pre .3)
-    , ((λ v l. r .outcomes .0 v unreachedOutcome l), subst (λ (x : Model _). NoneWaits (x .slots)) (sym (r .queue)) (cleared-idle m))
-    , ap (λ (x : Model _). x .taken) (r .queue), r .ready )
+    let m = g .Q·Queue .model (c .args .queue .now) in (
+      c .pre .0,
+      search needs,
+      omega (arith, ap (λ (x : Model _). length (x .slots)) (r .queue), cleared-length m, c .pre .3),
+      ((λ v l. r .outcomes .0 v unreachedOutcome l), subst (λ (x : Model _). NoneWaits (x .slots)) (sym (r .queue)) (cleared-idle m)),
+      ap (λ (x : Model _). x .taken) (r .queue),
+      r .ready,
+    )
 
 pub fill-buckets-requires : need.fill-buckets-requires
 fill-buckets-requires g c κs =
     let r = c .reset .ensures in
     let d = c .least-delays-reached .ensures in
-    let m = g .Q·Queue .model (c .args .queue .now) in
-    ( c .pre .0, c .pre .1, search needs, search needs
-    , omega (arith, d .slots, ap (λ (x : Model _). length (x .slots)) (r .queue), cleared-length m, c .pre .3)
-    , d .idle, (λ q l. r .labels .0 q (emptyLabel (g .G·Grade .initial)) l), (λ v l. d .least v l .3), d .ready )
+    let m = g .Q·Queue .model (c .args .queue .now) in (
+      c .pre .0,
+      c .pre .1,
+      search needs,
+      search needs,
+      omega (arith, d .slots, ap (λ (x : Model _). length (x .slots)) (r .queue), cleared-length m, c .pre .3),
+      d .idle,
+      (λ q l. r .labels .0 q (emptyLabel (g .G·Grade .initial)) l),
+      (λ v l. d .least v l .3),
+      d .ready,
+    )
 
 pub returns : need.returns
 returns g c =
@@ -52,8 +62,8 @@ returns g c =
         labels-beyond = λ q h. f .labels-beyond q h ∙ r .labels .1 q (emptyLabel initial) h;
         outcomes-beyond = λ v h. f .outcomes-beyond v h ∙ d .rest v h ∙ r .outcomes .1 v unreachedOutcome h;
         number-taken = c .taken .ensures;
-        idle = b .idle
+        idle = b .idle;
       };
       slots = b .slots ∙ d .slots ∙ ap (λ (x : Model _). length (x .slots)) (r .queue) ∙ cleared-length m;
-      ready = b .ready
+      ready = b .ready;
     }
