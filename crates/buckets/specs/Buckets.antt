@@ -33,8 +33,7 @@ pub record Loaded {G : Type 0} (initial : G) (p : Plan) (b m : ℕ) (labels : Li
   pub pending : (s : ℕ) → waits (at slots s) ≡ true → (s < m) × (labelIn initial p labels s b .mark ≡ Waiting)
   pub queued : (v : ℕ) → v < m → labelIn initial p labels v b .mark ≡ Waiting → waits (at slots v) ≡ true
 
--- what holds of the label l of point v in bucket b while the buckets below i are done: without a mark it is blank,
--- else it stands in the bucket of its delay and extends a kept label; in a bucket that is done it neither waits nor is dropped
+-- the label l of point v in bucket b, while the buckets below i are done: blank, or in the bucket of its delay and extending a kept label
 pub record Sound {G : Type 0} (initial : G) (p : Plan) (links : List Link) (i : ℕ) (labels : List (Label G)) (v b : ℕ) (l : Label G) : Type 0 where
   pub blank : l .mark ≡ Empty → l ≡ emptyLabel initial
   pub placed : (l .mark ≡ Empty → ⊥) → l .delay / p .width ≡ b

@@ -1,13 +1,14 @@
 // The labels, bucket by bucket of delay.
 ghost use mathlib.Core.Path.{_≡_};
 ghost use Prim.Native.Nat.{ℕ, _+_, _*_, _<_, _≤_};
-ghost use lib.ListN.{length};
+ghost use lib.ListN.{length, set};
 ghost use Rattle.buckets.specs.Buckets.{labelIn, closedIn, SameOpen, Loaded, Filling, Taking, Ready, Swept};
 ghost use Rattle.buckets.specs.Results.{Frame, KeptOrBlank, Chained, GivenKept};
+ghost use Rattle.labels.specs.Steps.{OfferedIf, marked};
 ghost use Rattle.queues.specs.Slots.{NoneWaits};
 ghost use Rattle.tables.specs.Tables.{labelAt, outcomeAt, emptyLabel, Joined};
 ghost use Rattle.tables.specs.Tallies.{tally};
-ghost use Rattle.tables.specs.declared.table.Mark.the-variants.{Kept};
+ghost use Rattle.tables.specs.declared.table.Mark.the-variants.{Kept, Waiting};
 use grades::Grade;
 use labels::step::label_at;
 use labels::step::offer_waiting;
@@ -64,6 +65,24 @@ fn expand<G: Grade, Q: Queue<G>>(
     }
 }
 
+// Offers the point if its label in this bucket waits.
+fn offer_point<G: Grade, Q: Queue<G>>(
+    plan: Plan,
+    labels: &[Label<G>],
+    queue: &mut Q,
+    point: usize,
+    bucket: u32,
+)
+    requires { ⌜ plan .points * plan .buckets ≤ length (now labels) ⌝ }
+    requires { ⌜ point < plan .points ⌝ }
+    requires { ⌜ bucket < plan .buckets ⌝ }
+    ensures offered { λ _. ⌜ OfferedIf (G·Order .asGood) (Q·Queue .model (now (queue .entry)) .slots) point (labelIn (G·Grade .initial) plan (now (labels .entry)) point bucket) (labelIn (G·Grade .initial) plan (now (labels .entry)) point bucket .mark) (Q·Queue .model (now (queue .exit)) .slots) ⌝ }
+    ensures ready { λ _. ⌜ (Q·Queue .ready (now (queue .entry)) → Q·Queue .ready (now (queue .exit))) ⌝ }
+{
+    let label = label_at(plan, labels, point, bucket);
+    offer_waiting(queue, point, label);
+}
+
 // Offers each point that has a candidate in this bucket.
 fn load_bucket<G: Grade, Q: Queue<G>>(plan: Plan, labels: &[Label<G>], queue: &mut Q, bucket: u32)
     requires { ⌜ plan .points * plan .buckets ≤ length (now labels) ⌝ }
@@ -75,7 +94,7 @@ fn load_bucket<G: Grade, Q: Queue<G>>(plan: Plan, labels: &[Label<G>], queue: &m
     ensures ready { λ _. ⌜ (Q·Queue .ready (now (queue .entry)) → Q·Queue .ready (now (queue .exit))) ⌝ }
 {
     for point in 0..plan.points {
-        offer_waiting(queue, point, label_at(plan, labels, point, bucket));
+        offer_point(plan, labels, queue, point, bucket);
     }
 }
 
@@ -168,6 +187,17 @@ fn fill_bucket<G: Grade, Q: Queue<G>>(
     sweep_bucket(plan, labels, bucket);
 }
 
+// Gives the source the label of the empty route.
+fn put_source<G: Grade>(plan: Plan, labels: &mut [Label<G>])
+    requires { ⌜ plan .points * plan .buckets ≤ length (now labels) ⌝ }
+    ensures { λ _. ⌜ now (labels .exit) ≡ set (now (labels .entry)) (plan .source * plan .buckets + 0) (marked Waiting (emptyLabel (G·Grade .initial))) ⌝ }
+{
+    labels[plan.place(plan.source, 0)] = Label {
+        mark: Mark::Waiting,
+        ..empty_label()
+    };
+}
+
 // Gives the source the label of the empty route, and fills the buckets in turn.
 pub fn fill_buckets<G: Grade, Q: Queue<G>>(
     plan: Plan,
@@ -194,10 +224,7 @@ pub fn fill_buckets<G: Grade, Q: Queue<G>>(
     ensures chained { λ _. ⌜ Chained (G·Grade .initial) (now (links .entry)) (plan .points) (plan .buckets) (now (labels .exit)) ⌝ }
     ensures given_kept { λ _. ⌜ GivenKept (G·Grade .initial) (plan .points) (plan .buckets) (now (outcomes .exit)) (now (labels .exit)) ⌝ }
 {
-    labels[plan.place(plan.source, 0)] = Label {
-        mark: Mark::Waiting,
-        ..empty_label()
-    };
+    put_source(plan, labels);
     for bucket in 0..plan.buckets {
         fill_bucket(plan, links, labels, outcomes, queue, bucket);
     }

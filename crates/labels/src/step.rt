@@ -25,7 +25,8 @@ pub fn label_at<G: Grade>(plan: Plan, labels: &[Label<G>], point: usize, bucket:
     requires { ⌜ bucket < plan .buckets ⌝ }
     ensures { λ r. ⌜ r ≡ labelAt (G·Grade .initial) (now (labels .entry)) (point * plan .buckets + bucket) ⌝ }
 {
-    labels[plan.place(point, bucket)]
+    let index = plan.place(point, bucket);
+    labels[index]
 }
 
 // Tries one open link from `label`, kept in `bucket`, to the point `to`.

@@ -1,8 +1,10 @@
 use borrow.Author.Needs.{needs}
 use mathlib.Core.Path.{_≡_, refl, subst, _∙_}
-use Prim.Native.Nat.{ℕ, _<_}
+use Prim.Native.Nat.{ℕ, _+_, _*_, _<_}
 use native.Mathlib.Omega.{arith}
+use Rattle.tables.proofs.Cuts.{place-below}
 use Rattle.buckets.specs.Buckets.{Ready}
+use Rattle.buckets.specs.Results.{Frame}
 use Rattle.buckets.proofs.Filled.{begin-ready}
 use Rattle.buckets.proofs.Soundness.{kept-empty, sound-end}
 use Rattle.buckets.proofs.Framing.{frame-same, frame-then, frame-put}
@@ -13,7 +15,7 @@ loop-bucket-holds g c =
     let a = c .args in
     let p = a .plan in
     let i = g .G·Grade .initial in (
-      rw (c .place .ensures .0, c .empty-label .ensures)
+      rw (c .put-source .ensures)
           (begin-ready i p (a .links .now) (a .outcomes .now) (a .labels .now) (c .pre .3) (c .pre .6) (c .pre .7) (g .Q·Queue .model (a .queue .now) .slots) (c .pre .5) (c .pre .4)),
       refl,
       frame-same i (p .points) (p .buckets) (a .outcomes .now) _,
@@ -42,6 +44,8 @@ returns g c =
     let i = g .G·Grade .initial in
     let l = c .loop-bucket in
     let e : l .bucket ≡ p .buckets = omega arith in
+    let begun : Frame i (p .points) (p .buckets) (a .outcomes .now) (a .labels .now) (a .outcomes .now) (c .put-source .last .labels) =
+    rw (c .put-source .ensures) (frame-put i (p .points) (p .buckets) (a .outcomes .now) (a .labels .now) (p .source * p .buckets + 0) _ (place-below (p .source) (p .points) 0 (p .buckets) (p .started) (omega (arith, p .cut)))) in
     let some : 0 < p .buckets = omega (arith, p .cut) in
     let r = subst (λ (x : ℕ). Ready i p (a .links .now) x (l .outcomes) (l .labels) (g .Q·Queue .model (l .queue) .slots)) e (l .inv .0) in
     record {
@@ -49,8 +53,7 @@ returns g c =
       slots = l .inv .1;
       ready = l .inv .3;
       given = r .books .within;
-      frame = frame-then i (p .points) (p .buckets) (a .outcomes .now) (a .outcomes .now) (l .outcomes) (a .labels .now) _ (l .labels)
-          (frame-put i (p .points) (p .buckets) (a .outcomes .now) (a .labels .now) (c .place .result) _ (c .place .ensures .1)) (l .inv .2);
+      frame = frame-then i (p .points) (p .buckets) (a .outcomes .now) (a .outcomes .now) (l .outcomes) (a .labels .now) (c .put-source .last .labels) (l .labels) begun (l .inv .2);
       settled = sound-end i p (a .links .now) (l .labels) some (r .books .sound);
       chained = λ v b hv hb k. r .books .sound v b hv hb .extends (kept-empty _ k);
       given-kept = r .books .last;

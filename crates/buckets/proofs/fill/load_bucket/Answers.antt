@@ -15,10 +15,10 @@ loop-point-again g c =
     let a = c .args in
     let q = g .Q·Queue .model in
     let inv = c .loop-point .inv in
-    let o = c .offer-waiting in
+    let o = c .offer-point in
     let t = loaded-more (g .G·Order .asGood) (g .G·Grade .initial) (a .plan) (a .bucket) (a .labels .now) (c .loop-point .point)
     (q (c .loop-point .queue) .slots) (q (o .last .queue) .slots) (omega (arith, inv .1)) (inv .0)
-    (c .label-at .result) (c .label-at .result .mark) refl (c .label-at .ensures) (o .ensures .offered) in
+    _ _ refl refl (o .ensures .offered) in
     (t .0, t .1 ∙ inv .1, λ y. o .ensures .ready (inv .2 y))
 
 pub returns : need.returns
