@@ -5,7 +5,7 @@ ghost use lib.ListN.{length};
 ghost use Rattle.queues.specs.Slots.{cleared};
 ghost use Rattle.search.specs.Results.{Searched};
 ghost use Rattle.search.specs.Answers.{Answered, Unmoved};
-ghost use Rattle.tables.specs.Tables.{Joined, Wiped, emptyLabel, unreachedOutcome};
+ghost use Rattle.tables.specs.Tables.{Wiped, emptyLabel, unreachedOutcome};
 use buckets::fill::fill_buckets;
 use delays::delay::least_delays;
 use faults::Fault;
@@ -17,7 +17,6 @@ use tables::prepare::check_room;
 use tables::prepare::prepare;
 use tables::table::Found;
 use tables::table::Label;
-use tables::table::Link;
 use tables::table::Outcome;
 use tables::wipe::empty_label;
 use tables::wipe::unreached;
@@ -45,24 +44,23 @@ fn reset<G: Grade, Q: Queue<G>>(
 // The search itself, over tables that are large enough.
 fn explore<G: Grade, Q: Queue<G>>(
     plan: Plan,
-    links: &[Link],
+    net: Net,
     labels: &mut [Label<G>],
     outcomes: &mut [Outcome],
     queue: &mut Q,
 ) -> Found
-    requires { ⌜ Joined (plan .points) (now links) ⌝ }
-    requires { ⌜ length (now links) ≤ 16384 ⌝ }
-    requires { ⌜ plan .points ≤ length (now outcomes) ⌝ }
-    requires { ⌜ plan .points ≤ length (Q·Queue .model (now queue) .slots) ⌝ }
-    requires { ⌜ plan .points * plan .buckets ≤ length (now labels) ⌝ }
+    requires points { ⌜ plan .points ≡ net .points ⌝ }
+    requires outcomes { ⌜ plan .points ≤ length (now outcomes) ⌝ }
+    requires slots { ⌜ plan .points ≤ length (Q·Queue .model (now queue) .slots) ⌝ }
+    requires labels { ⌜ plan .points * plan .buckets ≤ length (now labels) ⌝ }
     ensures width { λ r. ⌜ r .width ≡ plan .width ⌝ }
-    ensures searched { λ r. ⌜ Searched (G·Grade .initial) (now (links .entry)) (plan .points) (plan .source) (plan .bound) (plan .buckets) (now (labels .entry)) (now (outcomes .entry)) (r .reached) (r .taken) (now (labels .exit)) (now (outcomes .exit)) (Q·Queue .model (now (queue .exit))) ⌝ }
+    ensures searched { λ r. ⌜ Searched (G·Grade .initial) (now (net .entry .links)) (plan .points) (plan .source) (plan .bound) (plan .buckets) (now (labels .entry)) (now (outcomes .entry)) (r .reached) (r .taken) (now (labels .exit)) (now (outcomes .exit)) (Q·Queue .model (now (queue .exit))) ⌝ }
     ensures slots { λ _. ⌜ length (Q·Queue .model (now (queue .exit)) .slots) ≡ length (Q·Queue .model (now (queue .entry)) .slots) ⌝ }
     ensures ready { λ _. ⌜ Q·Queue .ready (now (queue .exit)) ⌝ }
 {
     reset(plan, labels, outcomes, queue);
-    let reached = least_delays(plan, links, outcomes, queue);
-    fill_buckets(plan, links, labels, outcomes, queue);
+    let reached = least_delays(plan, net.links, outcomes, queue);
+    fill_buckets(plan, net.links, labels, outcomes, queue);
     Found {
         width: plan.width,
         reached,
@@ -86,6 +84,6 @@ pub fn search<G: Grade, Q: Queue<G>>(
 {
     let plan = prepare(net, source, bound, tolerance)?;
     check_room(plan, outcomes.len(), queue.slots(), labels.len())?;
-    let found = explore(plan, net.links, labels, outcomes, queue);
+    let found = explore(plan, net, labels, outcomes, queue);
     Ok((plan, found))
 }

@@ -2,6 +2,7 @@ use mathlib.Core.Path.{_≡_, refl, sym, ap, _∙_, subst}
 use Prim.Native.Nat.{ℕ, _≤_}
 use native.Mathlib.Omega.{arith}
 use borrow.Author.Needs.{needs}
+use denote.Ref.{now}
 use lib.ListN.{length}
 use Rattle.queues.specs.Slots.{Model, NoneWaits}
 use Rattle.tables.specs.declared.table.Outcome.{Outcome}
@@ -15,9 +16,9 @@ pub least-delays-reached-requires : need.least-delays-reached-requires
 least-delays-reached-requires g c κs =
     let r = c .reset .ensures in
     let m = g .Q·Queue .model (c .args .queue .now) in (
-      c .pre .0,
+      rw (c .pre .points) (c .args .net .joined),
       search needs,
-      omega (arith, ap (λ (x : Model _). length (x .slots)) (r .queue), cleared-length m, c .pre .3),
+      omega (arith, ap (λ (x : Model _). length (x .slots)) (r .queue), cleared-length m, c .pre .slots),
       ((λ v l. r .outcomes .0 v unreachedOutcome l), subst (λ (x : Model _). NoneWaits (x .slots)) (sym (r .queue)) (cleared-idle m)),
       ap (λ (x : Model _). x .taken) (r .queue),
       r .ready,
@@ -28,11 +29,11 @@ fill-buckets-requires g c κs =
     let r = c .reset .ensures in
     let d = c .least-delays-reached .ensures in
     let m = g .Q·Queue .model (c .args .queue .now) in (
-      c .pre .0,
-      c .pre .1,
+      rw (c .pre .points) (c .args .net .joined),
+      c .args .net .numbered,
       search needs,
       search needs,
-      omega (arith, d .slots, ap (λ (x : Model _). length (x .slots)) (r .queue), cleared-length m, c .pre .3),
+      omega (arith, d .slots, ap (λ (x : Model _). length (x .slots)) (r .queue), cleared-length m, c .pre .slots),
       d .idle,
       (λ q l. r .labels .0 q (emptyLabel (g .G·Grade .initial)) l),
       (λ v l. d .least v l .3),
@@ -42,7 +43,7 @@ fill-buckets-requires g c κs =
 pub returns : need.returns
 returns g c =
     let initial = g .G·Grade .initial in
-    let links = c .args .links .now in
+    let links = now (c .args .net .links) in
     let p = c .args .plan in
     let r = c .reset .ensures in
     let d = c .least-delays-reached .ensures in
