@@ -11,11 +11,18 @@ use tables::table::Link;
 use tables::table::Outcome;
 use tables::wipe::empty_label;
 
+// Where the label of a point in a bucket stands.
+fn place_of(buckets: u32, point: u16, bucket: u32) -> usize
+    ensures { λ r. ⌜ r ≡ point * buckets + bucket ⌝ }
+{
+    point as usize * buckets as usize + bucket as usize
+}
+
 // The label of a point in a bucket. A place that is not there holds no label.
 pub fn label_at<G: Grade>(labels: &[Label<G>], buckets: u32, point: u16, bucket: u32) -> Label<G>
     ensures { λ r. ⌜ r ≡ labelAt (G·Grade .initial) (now (labels .entry)) (point * buckets + bucket) ⌝ }
 {
-    let place = point as usize * buckets as usize + bucket as usize;
+    let place = place_of(buckets, point, bucket);
     if place < labels.len() {
         labels[place]
     } else {
