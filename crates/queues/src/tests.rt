@@ -34,7 +34,14 @@ fn first_key_first() -> Result<(), Fail> {
     ];
     for (slot, price, delay, count, wanted) in offers {
         let grade = Price { value: price };
-        let answer = queue.offer(slot, &Key { grade, delay, count });
+        let answer = queue.offer(
+            slot,
+            &Key {
+                grade,
+                delay,
+                count,
+            },
+        );
         check_eq(word(answer), wanted)?;
     }
     for wanted in [Some(5), Some(3), Some(1), Some(4), Some(0), None] {

@@ -53,7 +53,11 @@ impl ClosedStackup {
         if i < self.stack.layers.rows.len() {
             self.stack.layers.rows[i]
         } else {
-            Layer { kind: LayerKind::Plane, delay_rate: 0, price_rate: 0 }
+            Layer {
+                kind: LayerKind::Plane,
+                delay_rate: 0,
+                price_rate: 0,
+            }
         }
     }
 
