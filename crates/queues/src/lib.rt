@@ -3,3 +3,5 @@ mod ahead;
 pub mod queue;
 pub mod scan;
 pub mod slot;
+#[cfg(test)]
+mod tests;

@@ -2,3 +2,5 @@
 pub mod layer;
 pub mod stackup;
 pub mod table;
+#[cfg(test)]
+mod tests;

@@ -20,6 +20,22 @@ pub struct Plan {
     ghost room: { bound + (points - 1) * (width - 1) ≤ ceiling },
 }
 
+// Which part of this width a delay up to the ceiling falls into.
+fn part(delay: u32, ceiling: u32, width: u32) -> u32
+    requires { ⌜ delay ≤ ceiling ⌝ ∗ ⌜ 0 < width ⌝ }
+    ensures { λ r. ⌜ r ≡ delay / width ⌝ ∗ ⌜ r < bucketsOf ceiling width ⌝ }
+{
+    delay / width
+}
+
+// Where a column of a row stands in a table that holds its rows one after the other.
+fn cell(row: usize, column: u32, rows: usize, columns: u32) -> usize
+    requires { ⌜ rows ≤ 4096 ⌝ ∗ ⌜ row < rows ⌝ ∗ ⌜ column < columns ⌝ }
+    ensures { λ r. ⌜ r ≡ row * columns + column ⌝ ∗ ⌜ r < rows * columns ⌝ }
+{
+    row * columns as usize + column as usize
+}
+
 impl Plan {
     // The label places that the search wants.
     pub fn places(self) -> usize
@@ -33,7 +49,7 @@ impl Plan {
         requires { ⌜ delay ≤ self .ceiling ⌝ }
         ensures { λ r. ⌜ r ≡ delay / self .width ⌝ ∗ ⌜ r < self .buckets ⌝ }
     {
-        delay / self.width
+        part(delay, self.ceiling, self.width)
     }
 
     // Where the label of a point in a bucket stands.
@@ -41,6 +57,6 @@ impl Plan {
         requires { ⌜ point < self .points ⌝ ∗ ⌜ bucket < self .buckets ⌝ }
         ensures { λ r. ⌜ r ≡ point * self .buckets + bucket ⌝ ∗ ⌜ r < self .points * self .buckets ⌝ }
     {
-        point * self.buckets as usize + bucket as usize
+        cell(point, bucket, self.points, self.buckets)
     }
 }

@@ -12,6 +12,6 @@ ghost-self c =
     let s : Span = record { delay = c .args .delay; price = c .args .price; low = c .args .low; high = c .args .high } in
     let passed = c .in-Continue-check-span .ensures tt in
     let j = joins-from ls s (passed .1 .1 .1 .1 .1 .0) (passed .1 .1 .1 .0) in
-    let own : OwnSpans ls (vec-items (c .push-reserved .last .self)) = rw (c .push-reserved .ensures .items) (own-more ls ss s j (c .args .self .now .own)) in
-    let one : OneEach (vec-items (c .push-reserved .last .self)) = rw (c .push-reserved .ensures .items) (one-each-more ss s (λ k n. passed .1 .1 .1 .1 .0 (k, n)) (c .args .self .now .single)) in
+    let own : OwnSpans ls (vec-items (c .push-reserved .last .self)) = rw (c .push-reserved .ensures .items) (own-more ls ss _ j (c .args .self .now .own)) in
+    let one : OneEach (vec-items (c .push-reserved .last .self)) = rw (c .push-reserved .ensures .items) (one-each-more ss _ (λ k n. passed .1 .1 .1 .1 .0 (k, n)) (c .args .self .now .single)) in
     search needs
