@@ -18,7 +18,7 @@ use Rattle.tables.specs.declared.table.Outcome.{Outcome}
 use Rattle.tables.specs.Searches.{searchChecks}
 use Rattle.board.specs.declared.point.Point.{Point}
 use Rattle.board.specs.Boards.{BoardState}
-use Rattle.board.specs.Routes.{boardChecks}
+use Rattle.board.specs.Routes.{withSearch}
 
 -- the part of the links that is lent is the part in use
 pub lent-part : (n : ℕ) (ls ls′ : List Link) → ls ≡ ls′ → take (n - 0) ls ≡ take n ls′
@@ -52,3 +52,12 @@ pub put-back : {G : Type 0} (s : Stack) (ps pf : List Point) (n : ℕ) (ls ls′
     (record { stack = s; points = ps; points-free = pf; links = take n ls′; links-free = drop n ls′; labels = labels′; outcomes = os′; standing = st })
 put-back s ps pf n ls ls′ labels labels′ os os′ st e el eo =
     λ i. record { stack = s; points = ps; points-free = pf; links = take n (e i); links-free = drop n (e i); labels = el i; outcomes = eo i; standing = st }
+
+-- what holds of the tables of one board holds of those of another that is the same
+pub stands : {G : Type 0} (initial : G) (v c m : BoardState G) (p : Plan) (source bound reached taken : ℕ) (queue : Model G) → c ≡ m
+    → Searched initial (v .links) (length (v .points)) source bound (p .buckets) (v .labels) (v .outcomes) reached taken (m .labels) (m .outcomes) queue
+    → m ≡ withSearch v (m .labels) (m .outcomes) p
+    → Searched initial (v .links) (length (v .points)) source bound (p .buckets) (v .labels) (v .outcomes) reached taken (c .labels) (c .outcomes) queue
+    × (c ≡ withSearch v (c .labels) (c .outcomes) p)
+stands {G} initial v c m p source bound reached taken queue e s w =
+    subst (λ (x : BoardState G). Searched initial (v .links) (length (v .points)) source bound (p .buckets) (v .labels) (v .outcomes) reached taken (x .labels) (x .outcomes) queue × (x ≡ withSearch v (x .labels) (x .outcomes) p)) (sym e) (s, w)

@@ -25,3 +25,16 @@ pub record BoardState (G : Type 0) : Type 0 where
 abbrev pub newBoard : {G : Type 0} → Stack → List Point → List Link → List (Label G) → List Outcome → BoardState G
 newBoard s ps ls labels os =
     record { stack = s; points = []; points-free = ps; links = []; links-free = ls; labels = labels; outcomes = os; standing = None }
+
+-- the same board, on which another search stands, or none
+abbrev pub withStanding : {G : Type 0} → BoardState G → Option Plan → BoardState G
+withStanding b st = record {
+  stack = b .stack;
+  points = b .points;
+  points-free = b .points-free;
+  links = b .links;
+  links-free = b .links-free;
+  labels = b .labels;
+  outcomes = b .outcomes;
+  standing = st;
+}

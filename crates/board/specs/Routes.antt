@@ -8,12 +8,12 @@ use Rattle.std.specs.declared.option.Option.the-variants.{Some, None}
 use Rattle.std.specs.declared.result.Result.{Result}
 use Rattle.std.specs.declared.result.Result.the-variants.{Ok, Err}
 use Rattle.faults.specs.declared.Fault.{Fault}
-use Rattle.faults.specs.declared.Fault.the-variants.{NotSearched, NoRoute, ListTooShort}
+use Rattle.faults.specs.declared.Fault.the-variants.{NotSearched, NoRoute}
 use Rattle.faults.specs.Checks.{Check, Refused, Passed, if-fails}
 use Rattle.queues.specs.Slots.{Model}
 use Rattle.search.specs.Answers.{Figures}
 use Rattle.search.specs.Results.{Searched}
-use Rattle.search.specs.Trails.{trail}
+use Rattle.search.specs.Trails.{trail, listCheck}
 use Rattle.tables.specs.declared.plan.Plan.{Plan}
 use Rattle.tables.specs.declared.table.Found.{Found}
 use Rattle.tables.specs.declared.table.Label.{Label}
@@ -67,7 +67,7 @@ routeOf l = record { grade = l .grade; delay = l .delay; count = l .count }
 abbrev pub routeChecks : {G : Type 0} → G → BoardState G → Plan → ℕ → ℕ → List Check
 routeChecks initial b p v room =
     if-fails (givenLabel initial b p v .mark ≡ Kept → ⊥) (NoRoute v)
-    ∷ if-fails (room < givenLabel initial b p v .count) (ListTooShort (givenLabel initial b p v .count)) ∷ []
+    ∷ listCheck (givenLabel initial b p v .count) room ∷ []
 
 abbrev pub standingChecks : {G : Type 0} → G → BoardState G → Option Plan → ℕ → ℕ → List Check
 standingChecks initial b None v room = if-fails (Unit {0}) NotSearched ∷ []

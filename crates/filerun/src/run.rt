@@ -67,19 +67,22 @@ fn say_refused(
     )
 }
 
-// The line of a point after a search.
-fn point_line(board: &Board<Price>, point: u16) -> Line {
+// The line of a point after a search; none if the board has no such point.
+fn point_line(board: &Board<Price>, point: u16) -> Option<Line> {
     // a route visits no point twice, so it has fewer links than the board has places for points
     let mut list = [0; POINTS];
     let at = point as usize;
     match board.read(point, &mut list) {
-        Ok(route) => Line::Route {
+        Ok(route) => Some(Line::Route {
             point: at,
             delay: route.delay,
             price: route.grade.value,
             count: route.count,
+        }),
+        Err(fault) => match fault {
+            Fault::NoPoint(_) => None,
+            _ => Some(Line::Unreached { point: at }),
         },
-        Err(_) => Line::Unreached { point: at },
     }
 }
 
@@ -90,17 +93,17 @@ fn say_routes(
     board: &Board<Price>,
     found: Found,
 ) -> Result<(), AllocError> {
-    say(
-        heap,
-        out,
-        Line::Summary {
-            width: found.width,
-            reached: found.reached,
-            taken: found.taken,
-        },
-    )?;
-    for point in 0..board.point_count() {
-        say(heap, out, point_line(board, point as u16))?;
+    let summary = Line::Summary {
+        width: found.width,
+        reached: found.reached,
+        taken: found.taken,
+    };
+    say(heap, out, summary)?;
+    for point in 0..POINTS {
+        let Some(line) = point_line(board, point as u16) else {
+            break;
+        };
+        say(heap, out, line)?;
     }
     Ok(())
 }

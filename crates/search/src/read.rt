@@ -3,8 +3,9 @@ ghost use mathlib.Core.Path.{_≡_};
 ghost use mathlib.Core.List.{_++_};
 ghost use Prim.Native.Nat.{ℕ, _+_, _*_, _≤_};
 ghost use lib.ListN.{length, drop};
-ghost use Rattle.search.specs.Trails.{endBefore, trail};
+ghost use Rattle.search.specs.Trails.{endBefore, trail, Writes};
 ghost use Rattle.tables.specs.Tables.{labelAt, outcomeAt};
+use faults::Fault;
 use grades::Grade;
 use tables::table::Label;
 use tables::table::Link;
@@ -59,7 +60,7 @@ fn end_before(links: &[Link], link: u16, point: u16) -> u16
 }
 
 // Writes the last `count` links of the route of the label at (point, bucket), the earliest first.
-pub fn write_trail<G: Grade>(
+fn fill_trail<G: Grade>(
     links: &[Link],
     labels: &[Label<G>],
     buckets: u32,
@@ -79,4 +80,23 @@ pub fn write_trail<G: Grade>(
         at = end_before(links, label.link, at);
         within = label.earlier;
     }
+}
+
+// The same, if the list has a place for each.
+pub fn write_trail<G: Grade>(
+    links: &[Link],
+    labels: &[Label<G>],
+    buckets: u32,
+    point: u16,
+    bucket: u32,
+    count: u32,
+    list: &mut [u16],
+) -> Result<(), Fault>
+    ensures { λ r. ⌜ Writes count (trail (G·Grade .initial) (now (links .entry)) buckets (now (labels .entry)) point bucket count) (now (list .entry)) r (now (list .exit)) ⌝ }
+{
+    if list.len() < count as usize {
+        return Err(Fault::ListTooShort(count as u64));
+    }
+    fill_trail(links, labels, buckets, point, bucket, count as usize, list);
+    Ok(())
 }

@@ -4,7 +4,7 @@ ghost use mathlib.Core.Bool.{true, false};
 ghost use Prim.Native.Nat.{ℕ, _<_};
 ghost use lib.ListN.{length};
 ghost use Rattle.stackup.specs.Views.{closedOf};
-ghost use Rattle.board.specs.Boards.{newBoard};
+ghost use Rattle.board.specs.Boards.{newBoard, withStanding};
 ghost use Rattle.board.specs.Edits.{AddsPoint, AddsTrack, AddsVia, SetsMark, withLink};
 ghost use Rattle.tables.specs.Tables.{Ends};
 ghost use Rattle.board.specs.Views.{viewOf};
@@ -13,6 +13,7 @@ use crate::point::Point;
 use faults::Fault;
 use grades::Grade;
 use stackup::stackup::ClosedStackup;
+use tables::plan::Plan;
 use tables::table::Label;
 use tables::table::Link;
 use tables::table::Outcome;
@@ -40,6 +41,13 @@ impl<'p, 'l, 'b, 'o, G: Grade> Board<'p, 'l, 'b, 'o, G> {
         }
     }
 
+    // Says which search stands from here on: an accepted edit ends it.
+    pub(crate) fn set_standing(&mut self, standing: Option<Plan>)
+        ensures { λ _. ⌜ viewOf (now (self .exit)) ≡ withStanding (viewOf (now (self .entry))) standing ⌝ }
+    {
+        self.standing = standing;
+    }
+
     // Adds a point, and answers with its number.
     pub fn add_point(&mut self, x: u16, y: u16, layer: u8) -> Result<u16, Fault>
         ensures { λ r. ⌜ AddsPoint (viewOf (now (self .entry))) (record { x = x; y = y; layer = layer }) r (viewOf (now (self .exit))) ⌝ }
@@ -49,7 +57,7 @@ impl<'p, 'l, 'b, 'o, G: Grade> Board<'p, 'l, 'b, 'o, G> {
         let n = self.point_count;
         self.points[n] = point;
         self.point_count = n + 1;
-        self.standing = None;
+        self.set_standing(None);
         Ok(n as u16)
     }
 
@@ -64,7 +72,7 @@ impl<'p, 'l, 'b, 'o, G: Grade> Board<'p, 'l, 'b, 'o, G> {
         let n = self.link_count;
         self.links[n] = link;
         self.link_count = n + 1;
-        self.standing = None;
+        self.set_standing(None);
         n as u16
     }
 
@@ -91,7 +99,7 @@ impl<'p, 'l, 'b, 'o, G: Grade> Board<'p, 'l, 'b, 'o, G> {
     {
         self.check_link(link)?;
         self.links[link as usize].open = open;
-        self.standing = None;
+        self.set_standing(None);
         Ok(())
     }
 

@@ -1,8 +1,7 @@
 // Searching a board, and reading the routes that it found.
 ghost use mathlib.Core.Path.{_≡_};
-ghost use Prim.Native.Nat.{_≤_};
 ghost use lib.ListN.{length};
-ghost use Rattle.board.specs.Routes.{Searches, Reads, Untouched};
+ghost use Rattle.board.specs.Routes.{Searches, Reads, Untouched, routeOf};
 ghost use Rattle.board.specs.Views.{viewOf};
 use crate::board::Board;
 use crate::point::Route;
@@ -15,7 +14,19 @@ use search::read::write_trail;
 use search::run::search;
 use tables::net::Net;
 use tables::table::Found;
+use tables::table::Label;
 use tables::table::Mark;
+
+// What is told of a label's route.
+fn route_of<G: Grade>(label: Label<G>) -> Route<G>
+    ensures { λ r. ⌜ r ≡ routeOf label ⌝ }
+{
+    Route {
+        grade: label.grade,
+        delay: label.delay,
+        count: label.count,
+    }
+}
 
 impl<'p, 'l, 'b, 'o, G: Grade> Board<'p, 'l, 'b, 'o, G> {
     // Finds the best route to each point within the bound, and answers with the width, the points reached and the number taken.
@@ -42,16 +53,8 @@ impl<'p, 'l, 'b, 'o, G: Grade> Board<'p, 'l, 'b, 'o, G> {
         self.labels = labels;
         self.outcomes = outcomes;
         let (plan, found) = answer?;
-        self.standing = Some(plan);
+        self.set_standing(Some(plan));
         Ok(found)
-    }
-
-    // How many points the board has.
-    pub fn point_count(&self) -> usize
-        ensures count { λ r. ⌜ r ≡ length (viewOf (now (self .entry)) .points) ⌝ }
-        ensures bound { λ r. ⌜ r ≤ 4096 ⌝ }
-    {
-        self.point_count
     }
 
     // Writes the links of the route given at a point, source first, and answers with its count, delay and grade.
@@ -67,23 +70,16 @@ impl<'p, 'l, 'b, 'o, G: Grade> Board<'p, 'l, 'b, 'o, G> {
         let Mark::Kept = label.mark else {
             return Err(Fault::NoRoute(point));
         };
-        let count = label.count as usize;
-        if list.len() < count {
-            return Err(Fault::ListTooShort(count as u64));
-        }
+        let links = &self.links[0..self.link_count];
         write_trail(
-            &self.links[0..self.link_count],
+            links,
             self.labels,
             plan.buckets,
             point,
             bucket,
-            count,
+            label.count,
             list,
-        );
-        Ok(Route {
-            grade: label.grade,
-            delay: label.delay,
-            count: label.count,
-        })
+        )?;
+        Ok(route_of(label))
     }
 }

@@ -1,4 +1,4 @@
-use mathlib.Core.Path.{_≡_, refl, sym}
+use mathlib.Core.Path.{_≡_, refl, sym, _∙_}
 use mathlib.Core.Bool.{true}
 use native.Mathlib.Omega.{arith}
 use borrow.Author.Needs.{needs}
@@ -46,4 +46,4 @@ pub returns : need.returns
 returns g c =
     let b = c .args .self .now in
     let left = place-left (now (b .points)) _ 4096 (b .pointsFit) (c .in-Continue-check-new-point .ensures tt .0) in
-    (c .in-Continue-check-new-point .ensures tt, sym (used (now (b .points)) (b .«point_count») (b .pointsFit)), point-added _ _ _ (b .standing) (now (b .points)) (b .«point_count») _ _ _ (left .0))
+    (c .in-Continue-check-new-point .ensures tt, sym (used (now (b .points)) (b .«point_count») (b .pointsFit)), c .set-standing .ensures ∙ point-added _ _ _ (b .standing) (now (b .points)) (b .«point_count») _ _ _ (left .0))

@@ -1,4 +1,4 @@
-use mathlib.Core.Path.{_≡_, sym}
+use mathlib.Core.Path.{_≡_, sym, _∙_}
 use Prim.Native.Nat.{_+_}
 use native.Mathlib.Omega.{arith}
 use denote.Ref.{now}
@@ -34,5 +34,5 @@ returns g c =
     let b = c .args .self .now in
     record {
       number = sym (used (now (b .links)) (b .«link_count») (b .linksFit));
-      after = link-added _ _ _ (b .standing) _ _ (now (b .links)) (b .«link_count») (c .args .link) (c .pre .room);
+      after = c .set-standing .ensures ∙ link-added _ _ _ (b .standing) _ _ (now (b .links)) (b .«link_count») (c .args .link) (c .pre .room);
     }

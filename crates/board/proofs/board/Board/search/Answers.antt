@@ -8,7 +8,8 @@ use Rattle.std.proofs.shelf.Results.{err-from-errBy}
 use Rattle.search.specs.Answers.{Figures}
 use Rattle.tables.specs.declared.table.Link.{Link}
 use Rattle.tables.specs.Tables.{Joined}
-use Rattle.board.proofs.Lending.{lent-part, refused-on, passed-on, searched-on, put-back}
+use Rattle.board.specs.Views.{viewOf}
+use Rattle.board.proofs.Lending.{lent-part, refused-on, passed-on, searched-on, put-back, stands}
 use Rattle.board.proofs.Places.{used}
 use Rattle.board.proofs.board.Board.search.Needs as need
 
@@ -26,26 +27,6 @@ ghost-net g c =
 
 pub ghost-self : need.ghost-self
 ghost-self g c =
-    let b = c .args .self .now in
-    let e : now (c .replace-links .result) ≡ now (b .links) = ap (λ r. now r) (c .replace-links .ensures .value) in (
-      b .pointsFit,
-      (
-        b .fewPoints,
-        (
-          subst (λ (ls : List Link). b .«link_count» ≤ length ls) (sym e) (b .linksFit),
-          (
-            b .fewLinks,
-            (
-              b .onSignal,
-              (subst (λ (ls : List Link). Joined (b .«point_count») (take (b .«link_count») ls)) (sym e) (b .joined), tt),
-            ),
-          ),
-        ),
-      ),
-    )
-
-pub ghost-self-2 : need.ghost-self-2
-ghost-self-2 g c =
     let b = c .args .self .now in
     let e : now (c .replace-links .result) ≡ now (b .links) = ap (λ r. now r) (c .replace-links .ensures .value) in (
       b .pointsFit,
@@ -91,6 +72,10 @@ returns g c =
     let eo : now (c .replace-outcomes .result) ≡ now (b .outcomes) = ap (λ r. now r) (c .replace-outcomes .ensures .value) in
     let a = c .in-Continue-plan .ensures tt in
     let plan = c .in-Continue-plan .plan in
+    let found =
+    stands (g .G·Grade .initial) (viewOf b) _ _ plan (c .args .source) (c .args .bound) _ _ _ (c .set-standing .ensures)
+    (searched-on _ _ _ _ _ _ n el eo (length (g .Q·Queue .model (c .args .queue .now) .slots)) (c .args .source) (c .args .bound) (c .args .tolerance) _ _ _ (plan .buckets) _ _ _ _ _ (lent-part (b .«link_count») _ _ e) (a .answered .3))
+    (put-back _ _ _ (b .«link_count») _ _ _ _ _ _ _ e refl refl) in
     record {
       searches = (
         passed-on _ _ _ _ _ _ n el eo _ (c .args .source) (c .args .bound) (c .args .tolerance) (a .answered .0),
@@ -98,8 +83,8 @@ returns g c =
           plan,
           subst (λ (x : ℕ). Figures x (c .args .source) (c .args .bound) (c .args .tolerance) plan) n (a .answered .1),
           a .answered .2,
-          searched-on _ _ _ _ _ _ n el eo (length (g .Q·Queue .model (c .args .queue .now) .slots)) (c .args .source) (c .args .bound) (c .args .tolerance) _ _ _ (plan .buckets) _ _ _ _ _ (lent-part (b .«link_count») _ _ e) (a .answered .3),
-          put-back _ _ _ (b .«link_count») _ _ _ _ _ _ _ e refl refl,
+          found .0,
+          found .1,
         ),
       );
       queue = tt;

@@ -1,4 +1,4 @@
-use mathlib.Core.Path.{_≡_}
+use mathlib.Core.Path.{_≡_, _∙_}
 use Prim.Native.Nat.{_<_}
 use native.Mathlib.Omega.{arith}
 use borrow.Author.Needs.{needs}
@@ -35,4 +35,4 @@ returns g c =
     let u = used (now (b .links)) (b .«link_count») (b .linksFit) in
     let ok = c .in-Continue-check-link .ensures tt in
     let within : c .args .link < b .«link_count» = omega (arith, u, ok .0) in
-    (ok, mark-set _ _ _ (b .standing) _ _ (now (b .links)) (b .«link_count») (c .args .link) (c .args .open) within)
+    (ok, c .set-standing .ensures ∙ mark-set _ _ _ (b .standing) _ _ (now (b .links)) (b .«link_count») (c .args .link) (c .args .open) within)

@@ -2,7 +2,7 @@ use mathlib.Core.Path.{_≡_}
 use mathlib.Core.List.{_++_}
 use lib.ListN.{drop}
 use Rattle.search.specs.Trails.{trail}
-use Rattle.search.proofs.read.write_trail.Given as given
+use Rattle.search.proofs.read.fill_trail.Given as given
 
 -- what is still to be written, before what is, makes the whole
 abbrev pub Inv-loop-i : given.InvT-loop-i

@@ -7,7 +7,7 @@ use lib.ListN.{length, drop}
 use Rattle.tables.specs.declared.table.Label.{Label}
 use Rattle.search.specs.Trails.{trail, endBefore}
 use Rattle.search.proofs.Trailing.{trail-more}
-use Rattle.search.proofs.read.write_trail.Needs as need
+use Rattle.search.proofs.read.fill_trail.Needs as need
 
 pub loop-i-again : need.loop-i-again
 loop-i-again g c =
