@@ -13,6 +13,12 @@ const STACK: &[u8] =
 const BOARD: &[u8] =
     b"\x05\x00\x04\x00\x00\x00\x00\x00\x00\x05\x00\x04\x00\x0a\x00\x00\x00\x00\x05\x00\x04\x00\x00\x00\x00\x00\x02\x05\x00\x04\x00\x0a\x00\x00\x00\x02\x06\x00\x05\x00\x00\x00\x01\x00\x04\x00\x06\x00\x06\x00\x00\x00\x02\x00\x06\x00\x06\x00\x05\x00\x02\x00\x03\x00\x09\x00\x06\x00\x06\x00\x03\x00\x01\x00\x06\x00";
 
+// a signal layer, rates 60 and 1: 9 bytes
+const LAYER: &[u8] = b"\x05\x00\x01\x00\x01\x3c\x00\x01\x00";
+
+// a track 0-1, gap 4: 10 bytes
+const TRACK: &[u8] = b"\x06\x00\x05\x00\x00\x00\x01\x00\x04\x00";
+
 fn joined(heap: Global, parts: &[&[u8]]) -> Result<Vec<u8>, AllocError> {
     let mut file = Vec::new(heap);
     for part in parts {
@@ -141,6 +147,19 @@ fn refusals(rt: LibcRuntime) -> Result<(), Fail> {
         "refused 6 0 at 45\n",
     )?;
     Ok(())
+}
+
+// Refusal 1: the 33rd layer, and the 257th link.
+#[test]
+fn full_tables(rt: LibcRuntime) -> Result<(), Fail> {
+    let heap = rt.alloc();
+    prints(heap, &[LAYER; 33], "refused 1 32 at 288\n")?;
+    let tracks = joined(heap, &[TRACK; 253])?;
+    prints(
+        heap,
+        &[STACK, BOARD, tracks.as_slice()],
+        "refused 1 256 at 2641\n",
+    )
 }
 
 #[test]
