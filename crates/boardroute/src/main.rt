@@ -1,4 +1,6 @@
 // Reads a board file from standard input, and prints what its calls answer.
+#![tactic(auto)]
+
 use std::io::Read;
 
 fn main(rt: HostRuntime) -> anyhow::Result<()> {

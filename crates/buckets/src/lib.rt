@@ -1,2 +1,4 @@
 // The labels, bucket by bucket of delay. A part of the search, and no entry point.
+#![tactic(auto)]
+
 pub mod fill;

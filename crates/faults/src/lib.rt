@@ -1,4 +1,6 @@
 // Why a call is refused: one fault for each check of the rules, with the figure that it tells.
+#![tactic(auto)]
+
 ghost use Rattle.std.specs.Prelude.{◌≡◌};
 ghost use Rattle.faults.specs.Faults.{number_of, figure_of};
 

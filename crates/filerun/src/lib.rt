@@ -1,4 +1,6 @@
 // A board file run against a board, as one text.
+#![tactic(auto)]
+
 mod calls;
 pub mod run;
 #[cfg(test)]

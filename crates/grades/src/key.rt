@@ -16,7 +16,7 @@ pub struct Key<G> {
 impl<G: Order> Key<G> {
     // Whether this key comes before the other: the better grade, then the smaller delay, then the smaller count.
     pub fn before(&self, other: &Key<G>) -> bool
-        ensures { result ≡ comes_before as_good self.now other.now }
+        ensures { result ≡ comes_before G.Order.as_good self.now other.now }
     {
         if !self.grade.as_good(&other.grade) {
             return false;

@@ -1,4 +1,6 @@
 // A waiting queue as a binary heap.
+#![tactic(auto)]
+
 pub mod calls;
 pub mod heap;
 mod reheap;

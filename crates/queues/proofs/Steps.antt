@@ -1,25 +1,25 @@
 -- Two queues that mean the same answer alike.
-use Rattle.std.proofs.Common.{◌≡◌, ℕ, ◌<◌, ◌≤◌, Bool, true, false, not, ◌&&◌, ◌||◌, ltb, List, length, set, is_some, Some, None, Option, sym, refl, ap, ◌∙◌, arith}
+use Rattle.std.proofs.Common.{◌≡◌, ℕ, ◌<◌, ◌≤◌, Bool, true, false, not, ◌&&◌, ◌||◌, ltb, List, length, set, Some, None, Option, sym, refl, ap, ◌∙◌, arith}
 use Rattle.std.proofs.lemmas.Bool.Decides.{nat_tests}
 use Rattle.std.proofs.lemmas.Bool.{both_ways}
 use Rattle.grades.specs.declared.key.Key.{Key}
 use Rattle.grades.specs.Keys.{before}
 use Rattle.queues.specs.declared.slot.Slot.{Slot}
-use Rattle.queues.specs.declared.slot.Slot.TheVariants.{Idle}
+use Rattle.queues.specs.declared.slot.Slot.TheVariants.{Idle, Waiting}
 use Rattle.queues.specs.declared.slot.Offer.{Offer}
 use Rattle.queues.specs.declared.slot.Offer.TheVariants.{Changed, Kept, NoSlot}
-use Rattle.queues.specs.Slots.{Model, at, key_of, waits, precedes, yields, First, SlotOffer, SlotTake, Chosen, Takes, tallied}
+use Rattle.queues.specs.Slots.{Model, at, waits, ahead, yields, First, SlotOffer, SlotTake, Chosen, Takes, tallied}
 
-one_first : {G : Type 0} (good : G → G → Bool) (s t : ℕ) (x y : Option (Key G)) → is_some x ≡ true → is_some y ≡ true → precedes good s x t y ≡ false → precedes good t y s x ≡ false → s ≡ t
-one_first good s t None y wx wy h l = absurd (both_ways false refl wx)
-one_first good s t (Some j) None wx wy h l = absurd (both_ways false refl wy)
-one_first good s t (Some j) (Some k) wx wy h l = tests (before good j k) (before good k j) h l
+one_first : {G : Type 0} (good : G → G → Bool) (s t : ℕ) (x y : Slot G) → waits x ≡ true → waits y ≡ true → ahead good s x t y ≡ false → ahead good t y s x ≡ false → s ≡ t
+one_first good s t Idle y wx wy h l = absurd (both_ways false refl wx)
+one_first good s t (Waiting j) Idle wx wy h l = absurd (both_ways false refl wy)
+one_first good s t (Waiting j) (Waiting k) wx wy h l = tests (before good j k) (before good k j) h l
   where
     tests : (jk kj : Bool) → (jk || (not kj && ltb s t)) ≡ false → (kj || (not jk && ltb t s)) ≡ false → s ≡ t
     tests jk kj h l = grind (arith, nat_tests)
 
 pub first_unique : {G : Type 0} (good : G → G → Bool) (xs : List (Slot G)) (s t : ℕ) → First good xs s → First good xs t → s ≡ t
-first_unique good xs s t f g = one_first good s t (key_of (at xs s)) (key_of (at xs t)) f.wait g.wait (g.none_ahead s) (f.none_ahead t)
+first_unique good xs s t f g = one_first good s t (at xs s) (at xs t) f.wait g.wait (g.none_ahead s) (f.none_ahead t)
 
 pub offers_alike : {G : Type 0} (good : G → G → Bool) (xs : List (Slot G)) (s : ℕ) (k : Key G) (ys zs : List (Slot G)) (r q : Offer) → SlotOffer good xs s k ys r → SlotOffer good xs s k zs q → (r ≡ q) × (ys ≡ zs)
 offers_alike good xs s k ys zs Changed Changed h l = (refl, h.2 ∙ sym l.2)

@@ -1,4 +1,6 @@
 // The layers of a board: a stackup is open while it is built, and closed for good after.
+#![tactic(auto)]
+
 pub mod layer;
 pub mod stackup;
 pub mod table;

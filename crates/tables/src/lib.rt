@@ -1,4 +1,6 @@
 // The tables that a search works on, and its figures. A part of the search, and no entry point.
+#![tactic(auto)]
+
 pub mod ends;
 pub mod net;
 pub mod plan;
