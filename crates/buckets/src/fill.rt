@@ -26,13 +26,13 @@ fn expand<G: Grade, Q: Queue<G>>(
     point: usize,
 )
     requires joined { Joined plan.points links.now }
-    requires links_len_bound { length links.now ≤ 16384 }
-    requires points_in_bounds { plan.points ≤ length outcomes.now }
-    requires buckets_in_bounds { plan.points * plan.buckets ≤ length labels.old }
-    requires bucket_lt_buckets { bucket < plan.buckets }
-    requires point_lt_points { point < plan.points }
-    requires bucket_value { (label_in G.Grade.initial plan labels.old point bucket).mark ≡ Kept }
-    requires filling_2 { Filling G.Grade.initial plan links.now bucket outcomes.now labels.old (Q.Queue.model queue.old).slots }
+    requires few_links { length links.now ≤ 16384 }
+    requires outcomes_room { plan.points ≤ length outcomes.now }
+    requires labels_room { plan.points * plan.buckets ≤ length labels.old }
+    requires bucket_within { bucket < plan.buckets }
+    requires point_within { point < plan.points }
+    requires kept { (label_in G.Grade.initial plan labels.old point bucket).mark ≡ Kept }
+    requires filling { Filling G.Grade.initial plan links.now bucket outcomes.now labels.old (Q.Queue.model queue.old).slots }
     ensures filling { Filling G.Grade.initial plan links.now bucket outcomes.now labels.new (Q.Queue.model queue.new).slots }
     ensures same { SameOpen G.Grade.initial plan bucket labels.old labels.new }
     ensures slots { length (Q.Queue.model queue.new).slots ≡ length (Q.Queue.model queue.old).slots }
@@ -65,9 +65,9 @@ fn offer_point<G: Grade, Q: Queue<G>>(
     point: usize,
     bucket: u32,
 )
-    requires buckets_in_bounds { plan.points * plan.buckets ≤ length labels.now }
-    requires point_lt_points { point < plan.points }
-    requires bucket_lt_buckets { bucket < plan.buckets }
+    requires labels_room { plan.points * plan.buckets ≤ length labels.now }
+    requires point_within { point < plan.points }
+    requires bucket_within { bucket < plan.buckets }
     ensures offered { OfferedIf G.Order.as_good (Q.Queue.model queue.old).slots point (label_in G.Grade.initial plan labels.now point bucket) (label_in G.Grade.initial plan labels.now point bucket).mark (Q.Queue.model queue.new).slots }
     ensures ready { Q.Queue.ready queue.old → Q.Queue.ready queue.new }
 {
@@ -77,10 +77,10 @@ fn offer_point<G: Grade, Q: Queue<G>>(
 
 // Offers each point that has a candidate in this bucket.
 fn load_bucket<G: Grade, Q: Queue<G>>(plan: Plan, labels: &[Label<G>], queue: &mut Q, bucket: u32)
-    requires buckets_in_bounds { plan.points * plan.buckets ≤ length labels.now }
-    requires bucket_lt_buckets { bucket < plan.buckets }
+    requires labels_room { plan.points * plan.buckets ≤ length labels.now }
+    requires bucket_within { bucket < plan.buckets }
     requires none_waits { NoneWaits (Q.Queue.model queue.old).slots }
-    requires points_in_bounds { plan.points ≤ length (Q.Queue.model queue.old).slots }
+    requires slots_room { plan.points ≤ length (Q.Queue.model queue.old).slots }
     ensures loaded { Loaded G.Grade.initial plan bucket plan.points labels.now (Q.Queue.model queue.new).slots }
     ensures slots { length (Q.Queue.model queue.new).slots ≡ length (Q.Queue.model queue.old).slots }
     ensures ready { Q.Queue.ready queue.old → Q.Queue.ready queue.new }
@@ -101,10 +101,10 @@ fn settle_and_expand<G: Grade, Q: Queue<G>>(
     point: usize,
 )
     requires joined { Joined plan.points links.now }
-    requires links_len_bound { length links.now ≤ 16384 }
-    requires points_in_bounds { plan.points ≤ length outcomes.old }
-    requires buckets_in_bounds { plan.points * plan.buckets ≤ length labels.old }
-    requires bucket_lt_buckets { bucket < plan.buckets }
+    requires few_links { length links.now ≤ 16384 }
+    requires outcomes_room { plan.points ≤ length outcomes.old }
+    requires labels_room { plan.points * plan.buckets ≤ length labels.old }
+    requires bucket_within { bucket < plan.buckets }
     requires taking { Taking G.Grade.initial plan links.now bucket point outcomes.old labels.old (Q.Queue.model queue.old).slots }
     ensures filling { Filling G.Grade.initial plan links.now bucket outcomes.new labels.new (Q.Queue.model queue.new).slots }
     ensures tally { tally (closed_in G.Grade.initial plan bucket labels.new) plan.points ≡ tally (closed_in G.Grade.initial plan bucket labels.old) plan.points + 1 }
@@ -127,11 +127,11 @@ fn drain_bucket<G: Grade, Q: Queue<G>>(
     bucket: u32,
 )
     requires joined { Joined plan.points links.now }
-    requires links_len_bound { length links.now ≤ 16384 }
-    requires points_in_bounds { plan.points ≤ length outcomes.old }
-    requires buckets_in_bounds { plan.points * plan.buckets ≤ length labels.old }
-    requires bucket_lt_buckets { bucket < plan.buckets }
-    requires filling_2 { Filling G.Grade.initial plan links.now bucket outcomes.old labels.old (Q.Queue.model queue.old).slots }
+    requires few_links { length links.now ≤ 16384 }
+    requires outcomes_room { plan.points ≤ length outcomes.old }
+    requires labels_room { plan.points * plan.buckets ≤ length labels.old }
+    requires bucket_within { bucket < plan.buckets }
+    requires filling { Filling G.Grade.initial plan links.now bucket outcomes.old labels.old (Q.Queue.model queue.old).slots }
     ensures filling { Filling G.Grade.initial plan links.now bucket outcomes.new labels.new (Q.Queue.model queue.new).slots }
     ensures idle { NoneWaits (Q.Queue.model queue.new).slots }
     ensures slots { length (Q.Queue.model queue.new).slots ≡ length (Q.Queue.model queue.old).slots }
@@ -145,8 +145,8 @@ fn drain_bucket<G: Grade, Q: Queue<G>>(
 
 // Removes the labels that were dropped in this bucket.
 fn sweep_bucket<G: Grade>(plan: Plan, labels: &mut [Label<G>], bucket: u32)
-    requires buckets_in_bounds { plan.points * plan.buckets ≤ length labels.old }
-    requires bucket_lt_buckets { bucket < plan.buckets }
+    requires labels_room { plan.points * plan.buckets ≤ length labels.old }
+    requires bucket_within { bucket < plan.buckets }
     ensures { Swept G.Grade.initial plan bucket plan.points labels.old labels.new }
 {
     for point in 0..plan.points {
@@ -164,11 +164,11 @@ fn fill_bucket<G: Grade, Q: Queue<G>>(
     bucket: u32,
 )
     requires joined { Joined plan.points links.now }
-    requires links_len_bound { length links.now ≤ 16384 }
-    requires points_in_bounds { plan.points ≤ length outcomes.old }
-    requires buckets_in_bounds { plan.points * plan.buckets ≤ length labels.old }
-    requires bucket_lt_buckets { bucket < plan.buckets }
-    requires ready_2 { Ready G.Grade.initial plan links.now bucket outcomes.old labels.old (Q.Queue.model queue.old).slots }
+    requires few_links { length links.now ≤ 16384 }
+    requires outcomes_room { plan.points ≤ length outcomes.old }
+    requires labels_room { plan.points * plan.buckets ≤ length labels.old }
+    requires bucket_within { bucket < plan.buckets }
+    requires ready { Ready G.Grade.initial plan links.now bucket outcomes.old labels.old (Q.Queue.model queue.old).slots }
     ensures done { Ready G.Grade.initial plan links.now (bucket + 1) outcomes.new labels.new (Q.Queue.model queue.new).slots }
     ensures slots { length (Q.Queue.model queue.new).slots ≡ length (Q.Queue.model queue.old).slots }
     ensures frame { Frame G.Grade.initial plan.points plan.buckets outcomes.old labels.old outcomes.new labels.new }
@@ -199,14 +199,14 @@ pub fn fill_buckets<G: Grade, Q: Queue<G>>(
     queue: &mut Q,
 )
     requires joined { Joined plan.points links.now }
-    requires links_len_bound { length links.now ≤ 16384 }
-    requires points_in_bounds { plan.points ≤ length outcomes.old }
-    requires buckets_in_bounds { plan.points * plan.buckets ≤ length labels.old }
-    requires points_in_bounds_2 { plan.points ≤ length (Q.Queue.model queue.old).slots }
+    requires few_links { length links.now ≤ 16384 }
+    requires outcomes_room { plan.points ≤ length outcomes.old }
+    requires labels_room { plan.points * plan.buckets ≤ length labels.old }
+    requires slots_room { plan.points ≤ length (Q.Queue.model queue.old).slots }
     requires none_waits { NoneWaits (Q.Queue.model queue.old).slots }
-    requires by_index { (q : ℕ) → q < plan.points * plan.buckets → label_at G.Grade.initial labels.old q ≡ empty_label G.Grade.initial }
-    requires by_index_2 { (v : ℕ) → v < plan.points → (outcome_at outcomes.old v).given ≡ 0 }
-    requires ready_2 { Q.Queue.ready queue.old }
+    requires blank { (q : ℕ) → q < plan.points * plan.buckets → label_at G.Grade.initial labels.old q ≡ empty_label G.Grade.initial }
+    requires none_given { (v : ℕ) → v < plan.points → (outcome_at outcomes.old v).given ≡ 0 }
+    requires ready { Q.Queue.ready queue.old }
     ensures idle { NoneWaits (Q.Queue.model queue.new).slots }
     ensures slots { length (Q.Queue.model queue.new).slots ≡ length (Q.Queue.model queue.old).slots }
     ensures ready { Q.Queue.ready queue.new }

@@ -61,8 +61,8 @@ fn try_link<G: Grade, Q: Queue<G>>(
     from: usize,
     delay: u32,
 )
-    requires ends_within { EndsWithin (length outcomes.old) link.now }
-    requires ends_within_2 { EndsWithin (length (Q.Queue.model queue.old).slots) link.now }
+    requires outcomes_room { EndsWithin (length outcomes.old) link.now }
+    requires slots_room { EndsWithin (length (Q.Queue.model queue.old).slots) link.now }
     ensures tried { LinkTried G.Order.as_good G.Grade.initial bound (open_end link.now from) (delay + link.now.delay) outcomes.old (Q.Queue.model queue.old).slots outcomes.new (Q.Queue.model queue.new).slots }
     ensures number { (Q.Queue.model queue.new).taken ≡ (Q.Queue.model queue.old).taken }
     ensures ready { Q.Queue.ready queue.old → Q.Queue.ready queue.new }
@@ -81,11 +81,11 @@ fn relax<G: Grade, Q: Queue<G>>(
     from: usize,
 )
     requires joined { Joined plan.points links.now }
-    requires points_in_bounds { plan.points ≤ length outcomes.old }
-    requires points_in_bounds_2 { plan.points ≤ length (Q.Queue.model queue.old).slots }
-    requires from_lt_points { from < plan.points }
-    requires from_value { reached_at outcomes.old from ≡ true }
-    requires front_2 { Front G.Grade.initial links.now plan.points plan.source plan.bound from 0 outcomes.old (Q.Queue.model queue.old).slots }
+    requires outcomes_room { plan.points ≤ length outcomes.old }
+    requires slots_room { plan.points ≤ length (Q.Queue.model queue.old).slots }
+    requires from_within { from < plan.points }
+    requires from_reached { reached_at outcomes.old from ≡ true }
+    requires front { Front G.Grade.initial links.now plan.points plan.source plan.bound from 0 outcomes.old (Q.Queue.model queue.old).slots }
     ensures front { Front G.Grade.initial links.now plan.points plan.source plan.bound from (length links.now) outcomes.new (Q.Queue.model queue.new).slots }
     ensures slots { length (Q.Queue.model queue.new).slots ≡ length (Q.Queue.model queue.old).slots }
     ensures reached { SameReached outcomes.old outcomes.new }
@@ -107,11 +107,11 @@ pub fn least_delays<G: Grade, Q: Queue<G>>(
     queue: &mut Q,
 ) -> usize
     requires joined { Joined plan.points links.now }
-    requires points_in_bounds { plan.points ≤ length outcomes.old }
-    requires points_in_bounds_2 { plan.points ≤ length (Q.Queue.model queue.old).slots }
+    requires outcomes_room { plan.points ≤ length outcomes.old }
+    requires slots_room { plan.points ≤ length (Q.Queue.model queue.old).slots }
     requires fresh { Fresh plan.points outcomes.old (Q.Queue.model queue.old).slots }
-    requires queue_value { (Q.Queue.model queue.old).taken ≡ 0 }
-    requires ready_2 { Q.Queue.ready queue.old }
+    requires none_taken { (Q.Queue.model queue.old).taken ≡ 0 }
+    requires ready { Q.Queue.ready queue.old }
     ensures least { Least links.now plan.points plan.source plan.bound outcomes.new }
     ensures idle { NoneWaits (Q.Queue.model queue.new).slots }
     ensures slots { length (Q.Queue.model queue.new).slots ≡ length (Q.Queue.model queue.old).slots }

@@ -12,8 +12,8 @@ use queues::slot::{Offer, Slot};
 
 // Puts a slot at the end of a heap of `count` slots.
 fn append(heap: &mut [usize], place: &mut [usize], count: usize, slot: usize)
-    requires count_in_bounds { count < length heap.old }
-    requires slot_in_bounds { slot < length place.old }
+    requires heap_room { count < length heap.old }
+    requires place_room { slot < length place.old }
     ensures heap { heap.new ≡ slice_set heap.old count slot }
     ensures place { place.new ≡ slice_set place.old slot count }
 {
@@ -53,8 +53,8 @@ pub(crate) fn heap_offer<G: Order>(
 
 // The slot at the top of the heap no longer waits.
 fn take_top<G: Order>(slots: &mut [Slot<G>], heap: &[usize]) -> usize
-    requires heap_nonzero { 0 < length heap.now }
-    requires heap_in_bounds { slice_index heap.now 0 < length slots.old }
+    requires nonempty { 0 < length heap.now }
+    requires top_slot { slice_index heap.now 0 < length slots.old }
     ensures top { result ≡ slice_index heap.now 0 }
     ensures slots { slots.new ≡ slice_set slots.old result Idle }
 {
@@ -65,8 +65,8 @@ fn take_top<G: Order>(slots: &mut [Slot<G>], heap: &[usize]) -> usize
 
 // Moves the slot at place `last` of the heap to the top.
 fn fill_top(heap: &mut [usize], place: &mut [usize], last: usize)
-    requires last_in_bounds { last < length heap.old }
-    requires last_in_bounds_2 { slice_index heap.old last < length place.old }
+    requires last_within { last < length heap.old }
+    requires last_slot { slice_index heap.old last < length place.old }
     ensures heap { heap.new ≡ slice_set heap.old 0 (slice_index heap.old last) }
     ensures place { place.new ≡ slice_set place.old (slice_index heap.old last) 0 }
 {

@@ -20,8 +20,8 @@ fn leads<G: Order>(slots: &[Slot<G>], heap: &[usize], i: usize, j: usize) -> boo
 fn exchange(heap: &mut [usize], place: &mut [usize], i: usize, j: usize)
     requires i_in_bounds { i < length heap.old }
     requires j_in_bounds { j < length heap.old }
-    requires i_in_bounds_2 { slice_index heap.old i < length place.old }
-    requires j_in_bounds_2 { slice_index heap.old j < length place.old }
+    requires i_slot { slice_index heap.old i < length place.old }
+    requires j_slot { slice_index heap.old j < length place.old }
     ensures swapped { Swapped heap.old heap.new i j }
     ensures placed { place.new ≡ slice_set (slice_set place.old (slice_index heap.new i) i) (slice_index heap.new j) j }
 {

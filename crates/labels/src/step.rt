@@ -13,9 +13,9 @@ use tables::wipe::empty_label;
 
 // The label of a point in a bucket.
 pub fn label_at<G: Grade>(plan: Plan, labels: &[Label<G>], point: usize, bucket: u32) -> Label<G>
-    requires buckets_in_bounds { plan.points * plan.buckets ≤ length labels.now }
-    requires point_lt_points { point < plan.points }
-    requires bucket_lt_buckets { bucket < plan.buckets }
+    requires labels_room { plan.points * plan.buckets ≤ length labels.now }
+    requires point_within { point < plan.points }
+    requires bucket_within { bucket < plan.buckets }
     ensures { result ≡ label_at G.Grade.initial labels.now (point * plan.buckets + bucket) }
 {
     let index = plan.place(point, bucket);
@@ -34,9 +34,9 @@ pub fn try_link<G: Grade, Q: Queue<G>>(
     link: Link,
     to: usize,
 )
-    requires buckets_in_bounds { plan.points * plan.buckets ≤ length labels.old }
-    requires to_lt_points { to < plan.points }
-    requires points_in_bounds { plan.points ≤ length outcomes.now }
+    requires labels_room { plan.points * plan.buckets ≤ length labels.old }
+    requires to_within { to < plan.points }
+    requires outcomes_room { plan.points ≤ length outcomes.now }
     ensures tried { Tried G.Order.as_good G.Grade.initial outcomes.now plan.buckets plan.ceiling plan.width bucket to (extended G.Grade.after label bucket number link) labels.old (Q.Queue.model queue.old).slots labels.new (Q.Queue.model queue.new).slots }
     ensures taken { (Q.Queue.model queue.new).taken ≡ (Q.Queue.model queue.old).taken }
     ensures ready { Q.Queue.ready queue.old → Q.Queue.ready queue.new }
@@ -66,11 +66,11 @@ pub fn settle<G: Grade>(
     bucket: u32,
     point: usize,
 ) -> bool
-    requires points_in_bounds { plan.points ≤ length outcomes.old }
-    requires buckets_in_bounds { plan.points * plan.buckets ≤ length labels.old }
-    requires bucket_lt_buckets { bucket < plan.buckets }
-    requires point_lt_points { point < plan.points }
-    requires point_bound { (outcome_at outcomes.old point).given ≤ bucket }
+    requires outcomes_room { plan.points ≤ length outcomes.old }
+    requires labels_room { plan.points * plan.buckets ≤ length labels.old }
+    requires bucket_within { bucket < plan.buckets }
+    requires point_within { point < plan.points }
+    requires given_below { (outcome_at outcomes.old point).given ≤ bucket }
     ensures { Settled G.Order.as_good G.Grade.initial plan.buckets bucket point outcomes.old labels.old result outcomes.new labels.new }
 {
     let label = label_at(plan, labels, point, bucket);
@@ -111,9 +111,9 @@ pub fn offer_waiting<G: Grade, Q: Queue<G>>(queue: &mut Q, point: usize, label: 
 
 // Makes the place of a dropped label blank, and writes nothing else.
 pub fn sweep_label<G: Grade>(plan: Plan, labels: &mut [Label<G>], point: usize, bucket: u32)
-    requires buckets_in_bounds { plan.points * plan.buckets ≤ length labels.old }
-    requires point_lt_points { point < plan.points }
-    requires bucket_lt_buckets { bucket < plan.buckets }
+    requires labels_room { plan.points * plan.buckets ≤ length labels.old }
+    requires point_within { point < plan.points }
+    requires bucket_within { bucket < plan.buckets }
     ensures { SweptIf G.Grade.initial labels.old (point * plan.buckets + bucket) (label_at G.Grade.initial labels.old (point * plan.buckets + bucket)).mark labels.new }
 {
     let label = label_at(plan, labels, point, bucket);

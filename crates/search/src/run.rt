@@ -23,8 +23,8 @@ fn reset<G: Grade, Q: Queue<G>>(
     outcomes: &mut [Outcome],
     queue: &mut Q,
 )
-    requires points_in_bounds { plan.points ≤ length outcomes.old }
-    requires buckets_in_bounds { plan.points * plan.buckets ≤ length labels.old }
+    requires outcomes_room { plan.points ≤ length outcomes.old }
+    requires labels_room { plan.points * plan.buckets ≤ length labels.old }
     ensures labels { Wiped (empty_label G.Grade.initial) (plan.points * plan.buckets) labels.old labels.new }
     ensures outcomes { Wiped unreached_outcome plan.points outcomes.old outcomes.new }
     ensures queue { Q.Queue.model queue.new ≡ cleared (Q.Queue.model queue.old) }

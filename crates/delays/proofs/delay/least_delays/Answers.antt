@@ -10,7 +10,7 @@ use Rattle.delays.proofs.Steps.{marked, front_start, front_take, front_least, go
 use Rattle.delays.proofs.delay.least_delays.Goals as goal
 
 -- the point taken is one more that is reached
-taken_is : (g : _) (c : goal.After-outcomes-in-Some-2·1 g) → tally (reached_at c.relax.new.outcomes) c.args.plan.points ≡ tally (reached_at c.loop-point.outcomes) c.args.plan.points + 1
+taken_is : (g : _) (c : goal.After-outcomes-in-Some-2-1 g) → tally (reached_at c.relax.new.outcomes) c.args.plan.points ≡ tally (reached_at c.loop-point.outcomes) c.args.plan.points + 1
 taken_is g c =
     let p = c.loop-point.invariant.0.1.pending c.in-Some.point c.in-Some.ensures.takes.0.1 in
     let os = c.loop-point.outcomes in
@@ -21,16 +21,16 @@ pub loop-point-init : goal.loop-point-init
 loop-point-init g c =
     let a = c.args in
     let p = a.plan in
-    let o = c.offer-delay in
+    let o = c.offer_delay in
     let q : _ → _ = λ x. (g.Q.Queue.model x).slots in
     let i = g.G.Grade.initial in
-    let e = fresh_offer g.G.Order.as_good i p.points p.source p.bound a.outcomes.now o.new.outcomes (q a.queue.now) (q o.new.queue) p.started c.requires.3 o.ensures.offered in
+    let e = fresh_offer g.G.Order.as_good i p.points p.source p.bound a.outcomes.now o.new.outcomes (q a.queue.now) (q o.new.queue) p.started c.requires.fresh o.ensures.offered in
     let f : Front i a.links.now p.points p.source p.bound p.source (length a.links.now) o.new.outcomes (q o.new.queue) =
-    rw (e.0, e.1) (front_start i a.links.now p.points p.source p.bound a.outcomes.now (q a.queue.now) c.requires.1 c.requires.2 p.started c.requires.3) in
+    rw (e.0, e.1) (front_start i a.links.now p.points p.source p.bound a.outcomes.now (q a.queue.now) c.requires.outcomes_room c.requires.slots_room p.started c.requires.fresh) in
     let t : tally (reached_at o.new.outcomes) p.points ≡ 0 =
     fresh_tally g.G.Order.as_good i p.points p.source p.bound
-    a.outcomes.now o.new.outcomes (q a.queue.now) (q o.new.queue) p.started c.requires.1 c.requires.3 o.ensures.offered in
-    ((p.source, f), refl, sym t, o.ensures.number ∙ c.requires.4, (λ v l. refl), o.ensures.ready c.requires.5)
+    a.outcomes.now o.new.outcomes (q a.queue.now) (q o.new.queue) p.started c.requires.outcomes_room c.requires.fresh o.ensures.offered in
+    ((p.source, f), refl, sym t, o.ensures.number ∙ c.requires.none_taken, (λ v l. refl), o.ensures.ready c.requires.ready)
 
 pub relax-requires : goal.relax-requires
 relax-requires g c =
@@ -44,11 +44,18 @@ relax-requires g c =
     let room : p.points ≤ length os = search rules in
     let t = c.in-Some.ensures.takes.0 in
     let f = front_take good i (good_self good g.met.G.Order.total i) a.links.now p.points p.source p.bound c.loop-point.invariant.0.0 v os (q c.loop-point.queue) (q c.take.new.self) room c.loop-point.invariant.0.1 t (c.in-Some.ensures.chosen c.loop-point.invariant.5) in
-    let seats : p.points ≤ length (q c.take.new.self) = rw t.2 (simp length-set (omega (arith, c.loop-point.invariant.1, c.requires.2, (offer_frame good i p.bound p.source 0 a.outcomes.now c.offer-delay.new.outcomes (q a.queue.now) (q c.offer-delay.new.queue) (search rules) c.offer-delay.ensures.offered).1))) in
-    (c.requires.0, simp length-set room, seats, f.0, ap (λ (x : Outcome). x.reached) (get_or-set_same os v (marked (outcome_at os v)) unreached_outcome (omega arith)), f.1)
+    let seats : p.points ≤ length (q c.take.new.self) = rw t.2 (simp length-set (omega (arith, c.loop-point.invariant.1, c.requires.slots_room, (offer_frame good i p.bound p.source 0 a.outcomes.now c.offer_delay.new.outcomes (q a.queue.now) (q c.offer_delay.new.queue) (search rules) c.offer_delay.ensures.offered).1))) in
+    record {
+      joined = c.requires.joined;
+      outcomes_room = simp length-set room;
+      slots_room = seats;
+      from_within = f.0;
+      from_reached = ap (λ (x : Outcome). x.reached) (get_or-set_same os v (marked (outcome_at os v)) unreached_outcome (omega arith));
+      front = f.1;
+    }
 
-pub overflow-add-reached : goal.overflow-add-reached
-overflow-add-reached g c = let t = tally_le (reached_at c.loop-point.outcomes) c.args.plan.points in omega (arith, c.loop-point.invariant.2)
+pub overflow_add-reached : goal.overflow_add-reached
+overflow_add-reached g c = let t = tally_le (reached_at c.loop-point.outcomes) c.args.plan.points in omega (arith, c.loop-point.invariant.2)
 
 pub loop-point-smaller : goal.loop-point-smaller
 loop-point-smaller g c =
@@ -56,7 +63,7 @@ loop-point-smaller g c =
     let e = taken_is g c in omega arith
 
 -- the point taken is one of the plan's, so the outcomes from there on stay
-rest_more : (g : _) (c : goal.After-outcomes-in-Some-2·1 g) → Beyond c.args.plan.points c.loop-point.outcomes c.relax.new.outcomes
+rest_more : (g : _) (c : goal.After-outcomes-in-Some-2-1 g) → Beyond c.args.plan.points c.loop-point.outcomes c.relax.new.outcomes
 rest_more g c v l =
     let h = c.loop-point.invariant.0.1.pending c.in-Some.point c.in-Some.ensures.takes.0.1 in
     c.relax.ensures.rest v l ∙ get_or-set_other c.loop-point.outcomes c.in-Some.point v (marked (outcome_at c.loop-point.outcomes c.in-Some.point)) unreached_outcome (λ e. omega (arith, e, l, h.0))
@@ -75,15 +82,15 @@ returns g c =
     let q : _ → _ = λ x. (g.Q.Queue.model x).slots in
     let i = g.G.Grade.initial in
     let good = g.G.Order.as_good in
-    let t = c.in-default.ensures.takes.0 in
+    let t = c.in_default.ensures.takes.0 in
     let inv = c.loop-point.invariant in
-    let fr = (offer_frame good i p.bound p.source 0 a.outcomes.now c.offer-delay.new.outcomes (q a.queue.now) (q c.offer-delay.new.queue) (search rules) c.offer-delay.ensures.offered).1 in
+    let fr = (offer_frame good i p.bound p.source 0 a.outcomes.now c.offer_delay.new.outcomes (q a.queue.now) (q c.offer_delay.new.queue) (search rules) c.offer_delay.ensures.offered).1 in
     record {
-      least = front_least i a.links.now p.points p.source p.bound inv.0.0 c.loop-point.outcomes (q c.loop-point.queue) p.started c.requires.0 t.0 inv.0.1;
+      least = front_least i a.links.now p.points p.source p.bound inv.0.0 c.loop-point.outcomes (q c.loop-point.queue) p.started c.requires.joined t.0 inv.0.1;
       idle = rw t.1 t.0;
       slots = omega (arith, ap length t.1, inv.1, fr);
       reached = inv.2;
-      number = omega (arith, c.in-default.ensures.takes.1, inv.3);
-      rest = λ v l. inv.4 v l ∙ offer_beyond good i p.bound p.source 0 a.outcomes.now c.offer-delay.new.outcomes (q a.queue.now) (q c.offer-delay.new.queue) p.points p.started c.offer-delay.ensures.offered v l;
-      ready = c.in-default.ensures.ready inv.5;
+      number = omega (arith, c.in_default.ensures.takes.1, inv.3);
+      rest = λ v l. inv.4 v l ∙ offer_beyond good i p.bound p.source 0 a.outcomes.now c.offer_delay.new.outcomes (q a.queue.now) (q c.offer_delay.new.queue) p.points p.started c.offer_delay.ensures.offered v l;
+      ready = c.in_default.ensures.ready inv.5;
     }

@@ -4,10 +4,10 @@ use Rattle.heap_queue.proofs.Held.{indexed_as, sinking_as}
 use Rattle.heap_queue.proofs.Reheaping.{popped, popped_sinking, top_is_first}
 use Rattle.heap_queue.proofs.reheap.pop.Goals as goal
 
-pub sift-down-requires : goal.sift-down-requires
-sift-down-requires g c =
-    let t = c.take-top-first.ensures in
-    let f = c.fill-top.ensures in
+pub sift_down-requires : goal.sift_down-requires
+sift_down-requires g c =
+    let t = c.take_top-first.ensures in
+    let f = c.fill_top.ensures in
     let es = t.slots ∙ ap (λ s. set c.args.slots.now s Idle) t.top in
     record {
       within = c.if-rest-gt0.true;
@@ -17,8 +17,8 @@ sift-down-requires g c =
 pub returns-then-rest-gt0 : goal.returns-then-rest-gt0
 returns-then-rest-gt0 g c =
     let good = g.G.Order.as_good in
-    let t = c.take-top-first.ensures in
-    let f = c.fill-top.ensures in
+    let t = c.take_top-first.ensures in
+    let f = c.fill_top.ensures in
     let es = t.slots ∙ ap (λ s. set c.args.slots.now s Idle) t.top in
     let top = c.requires.indexed.stands 0 (omega arith) in
     record {
@@ -26,14 +26,14 @@ returns-then-rest-gt0 g c =
       wait = rw t.top top.1;
       first = λ o. rw t.top (top_is_first good g.met.G.Order.total g.met.G.Order.transitive c.args.slots.now c.args.heap.now c.args.place.now _ c.requires.indexed o (omega arith));
       slots = t.slots;
-      indexed = c.sift-down.ensures.indexed;
-      ordered = λ o. c.sift-down.ensures.ordered (sinking_as good es f.heap (popped_sinking good g.met.G.Order.total g.met.G.Order.transitive c.args.slots.now c.args.heap.now c.args.place.now _ c.requires.indexed o c.args.rest refl));
+      indexed = c.sift_down.ensures.indexed;
+      ordered = λ o. c.sift_down.ensures.ordered (sinking_as good es f.heap (popped_sinking good g.met.G.Order.total g.met.G.Order.transitive c.args.slots.now c.args.heap.now c.args.place.now _ c.requires.indexed o c.args.rest refl));
     }
 
 pub returns-else-rest-gt0 : goal.returns-else-rest-gt0
 returns-else-rest-gt0 g c =
-    let t = c.take-top-first.ensures in
-    let f = c.fill-top.ensures in
+    let t = c.take_top-first.ensures in
+    let f = c.fill_top.ensures in
     let es = t.slots ∙ ap (λ s. set c.args.slots.now s Idle) t.top in
     let top = c.requires.indexed.stands 0 (omega arith) in
     record {

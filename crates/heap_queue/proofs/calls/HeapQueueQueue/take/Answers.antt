@@ -20,7 +20,7 @@ returns g c =
     let more : q.count - 1 + 1 ≡ q.count = omega arith in
     let e = c.pop-first.ensures in
     record {
-      takes = (take_as es c.pop-first.new.slots c.pop-first.result e.within e.wait e.slots, c.one-more-self.ensures);
+      takes = (take_as es c.pop-first.new.slots c.pop-first.result e.within e.wait e.slots, c.one_more-self.ensures);
       chosen = λ o. first_as g.G.Order.as_good es c.pop-first.result (e.first (ordered_as g.G.Order.as_good es eh more o));
       ready = λ o. e.ordered (ordered_as g.G.Order.as_good es eh more o);
     }
