@@ -6,14 +6,14 @@ use Rattle.buckets.proofs.fill.load_bucket.Goals as goal
 pub loop-point-init : goal.loop-point-init
 loop-point-init g c =
     let a = c.args in
-    (loaded_none g.G.Order.as_good g.G.Grade.initial a.plan a.bucket a.labels.now (g.Q.Queue.model a.queue.now).slots c.requires.2, refl, λ y. y)
+    (loaded_none g.G.Order.as_good g.G.Grade.initial a.plan a.bucket a.labels.now (g.Q.Queue.model a.queue.now).slots c.requires.none_waits, refl, λ y. y)
 
 pub loop-point-preserved : goal.loop-point-preserved
 loop-point-preserved g c =
     let a = c.args in
     let q = g.Q.Queue.model in
     let inv = c.loop-point.invariant in
-    let o = c.offer-point in
+    let o = c.offer_point in
     let t = loaded_more g.G.Order.as_good g.G.Grade.initial a.plan a.bucket a.labels.now c.loop-point.point
     (q c.loop-point.queue).slots (q o.new.queue).slots (omega (arith, inv.1)) inv.0
     _ _ refl refl o.ensures.offered in

@@ -12,8 +12,8 @@ loop-point-preserved g c =
     let a = c.args in
     let p = a.plan in
     let m = c.loop-point.point in
-    let within : m * p.buckets + a.bucket < length c.loop-point.labels = omega (arith, place_below m p.points a.bucket p.buckets c.loop-point-test.true c.requires.1) in
-    swept_more g.G.Grade.initial p a.bucket m c.requires.1 a.labels.now c.loop-point.labels c.sweep-label.new.labels within c.loop-point.invariant _ refl c.sweep-label.ensures
+    let within : m * p.buckets + a.bucket < length c.loop-point.labels = omega (arith, place_below m p.points a.bucket p.buckets c.loop-point-test.true c.requires.bucket_within) in
+    swept_more g.G.Grade.initial p a.bucket m c.requires.bucket_within a.labels.now c.loop-point.labels c.sweep_label.new.labels within c.loop-point.invariant _ refl c.sweep_label.ensures
 
 pub returns : goal.returns
 returns g c =
