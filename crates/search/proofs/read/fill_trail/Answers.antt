@@ -8,7 +8,7 @@ pub loop-i-preserved : goal.loop-i-preserved
 loop-i-preserved g c =
     let room : c.loop-i.i ≤ length c.loop-i.list = omega (arith, c.loop-i.auto.i, c.loop-i.auto.list, c.requires) in
     let e = trail_more g.G.Grade.initial c.args.links.now c.args.buckets c.args.labels.now c.loop-i.at c.loop-i.within c.loop-i.i c.loop-i.list c.loop-i-test.true room in
-    rw (c.end-before-at.ensures, c.label-at-label.ensures) (c.loop-i.invariant ∙ e)
+    rw (c.end_before-at.ensures, c.label_at-label.ensures) (c.loop-i.invariant ∙ e)
 
 pub returns : goal.returns
 returns g c =

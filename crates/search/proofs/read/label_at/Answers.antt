@@ -6,5 +6,5 @@ use Rattle.search.proofs.read.label_at.Goals as goal
 pub returns-else-place-labels : goal.returns-else-place-labels
 returns-else-place-labels g c =
     let labels = c.args.labels.now in
-    let past = subst (λ (k : ℕ). length labels ≤ k) c.place-of-place.ensures c.if-place-labels.false in
-    c.empty-label.ensures ∙ sym (get_or_past labels _ (empty_label g.G.Grade.initial) past)
+    let past = subst (λ (k : ℕ). length labels ≤ k) c.place_of-place.ensures c.if-place-labels.false in
+    c.empty_label.ensures ∙ sym (get_or_past labels _ (empty_label g.G.Grade.initial) past)

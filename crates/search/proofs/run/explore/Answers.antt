@@ -7,33 +7,33 @@ use Rattle.tables.proofs.Tallying.{tally_same}
 use Rattle.search.proofs.Resets.{cleared_idle, cleared_length}
 use Rattle.search.proofs.run.explore.Goals as goal
 
-pub least-delays-reached-requires : goal.least-delays-reached-requires
-least-delays-reached-requires g c =
+pub least_delays-reached-requires : goal.least_delays-reached-requires
+least_delays-reached-requires g c =
     let r = c.reset.ensures in
-    let m = g.Q.Queue.model c.args.queue.now in (
-      rw c.requires.points c.args.net.joined,
-      search rules,
-      omega (arith, ap (λ (x : Model _). length x.slots) r.queue, cleared_length m, c.requires.slots),
-      ((λ v l. r.outcomes.0 v unreached_outcome l), subst (λ (x : Model _). NoneWaits x.slots) (sym r.queue) (cleared_idle m)),
-      ap (λ (x : Model _). x.taken) r.queue,
-      r.ready,
-    )
+    let m = g.Q.Queue.model c.args.queue.now in record {
+      joined = rw c.requires.points c.args.net.joined;
+      outcomes_room = search rules;
+      slots_room = omega (arith, ap (λ (x : Model _). length x.slots) r.queue, cleared_length m, c.requires.slots);
+      fresh = ((λ v l. r.outcomes.0 v unreached_outcome l), subst (λ (x : Model _). NoneWaits x.slots) (sym r.queue) (cleared_idle m));
+      none_taken = ap (λ (x : Model _). x.taken) r.queue;
+      ready = r.ready;
+    }
 
-pub fill-buckets-requires : goal.fill-buckets-requires
-fill-buckets-requires g c =
+pub fill_buckets-requires : goal.fill_buckets-requires
+fill_buckets-requires g c =
     let r = c.reset.ensures in
-    let d = c.least-delays-reached.ensures in
-    let m = g.Q.Queue.model c.args.queue.now in (
-      rw c.requires.points c.args.net.joined,
-      c.args.net.numbered,
-      search rules,
-      search rules,
-      omega (arith, d.slots, ap (λ (x : Model _). length x.slots) r.queue, cleared_length m, c.requires.slots),
-      d.idle,
-      (λ q l. r.labels.0 q (empty_label g.G.Grade.initial) l),
-      (λ v l. (d.least v l).3),
-      d.ready,
-    )
+    let d = c.least_delays-reached.ensures in
+    let m = g.Q.Queue.model c.args.queue.now in record {
+      joined = rw c.requires.points c.args.net.joined;
+      few_links = c.args.net.numbered;
+      outcomes_room = search rules;
+      labels_room = search rules;
+      slots_room = omega (arith, d.slots, ap (λ (x : Model _). length x.slots) r.queue, cleared_length m, c.requires.slots);
+      none_waits = d.idle;
+      blank = (λ q l. r.labels.0 q (empty_label g.G.Grade.initial) l);
+      none_given = (λ v l. (d.least v l).3);
+      ready = d.ready;
+    }
 
 pub returns : goal.returns
 returns g c =
@@ -41,8 +41,8 @@ returns g c =
     let links = c.args.net.links.now in
     let p = c.args.plan in
     let r = c.reset.ensures in
-    let d = c.least-delays-reached.ensures in
-    let b = c.fill-buckets.ensures in
+    let d = c.least_delays-reached.ensures in
+    let b = c.fill_buckets.ensures in
     let f = b.frame in
     let m = g.Q.Queue.model c.args.queue.now in
     record {
@@ -54,7 +54,7 @@ returns g c =
         points_reached = d.reached ∙ tally_same _ _ p.points (λ v l. sym (f.reached_same v));
         settled = b.settled;
         chained = b.chained;
-        given = b.given-kept;
+        given = b.given_kept;
         labels_beyond = λ q h. f.labels_beyond q h ∙ r.labels.1 q (empty_label initial) h;
         outcomes_beyond = λ v h. f.outcomes_beyond v h ∙ d.rest v h ∙ r.outcomes.1 v unreached_outcome h;
         number_taken = c.taken.ensures;
