@@ -6,7 +6,6 @@ ghost use Rattle.tables.specs.Tables.{Joined};
 ghost use Rattle.board.specs.Points.{point_at};
 
 use crate::point::Point;
-use grades::Grade;
 use stackup::stackup::ClosedStackup;
 use tables::plan::Plan;
 use tables::table::{Label, Link, Outcome};
@@ -20,7 +19,7 @@ pub mod route;
 // every link joins two points of the board that are apart. `standing` has the figures of the last accepted search,
 // until an edit is accepted.
 #[derive(Drop)]
-pub struct Board<'p, 'l, 'b, 'o, G: Grade> {
+pub struct Board<'p, 'l, 'b, 'o, G> {
     stackup: ClosedStackup,
     points: &'p mut [Point],
     point_count: usize,

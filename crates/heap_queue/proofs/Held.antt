@@ -50,7 +50,15 @@ none_at G zero s = refl
 none_at G (suc n) zero = refl
 none_at G (suc n) (suc s) = none_at G n s
 
-pub emptied : {G : Type 0} (xs ys : List (Slot G)) (h p : List ℕ) → length h ≡ length xs → length p ≡ length xs → ys ≡ replicate (length xs) Idle → (length h ≡ length ys) × ((length p ≡ length ys) × ((0 ≡ waiting ys) × ((0 ≤ length ys) × (Stands ys h p 0 × (Placed ys h p 0 × Unit {0})))))
+-- a heap of slots of which none waits
+pub emptied : {G : Type 0} (xs ys : List (Slot G)) (h p : List ℕ) → length h ≡ length xs → length p ≡ length xs → ys ≡ replicate (length xs) Idle → Indexed ys h p 0
 emptied {G} xs ys h p hl pl e =
     let long : length ys ≡ length xs = ap length e ∙ length-replicate (length xs) Idle in
-    (hl ∙ sym long, (pl ∙ sym long, (sym (ap waiting e ∙ waiting_none G (length xs)), (omega arith, (λ i w. absurd (omega arith), (λ s w. absurd (both_ways (waits (at ys s)) (ap (λ l. waits (at l s)) e ∙ none_at G (length xs) s) w), tt))))))
+    record {
+      heap_long = hl ∙ sym long;
+      place_long = pl ∙ sym long;
+      counted = sym (ap waiting e ∙ waiting_none G (length xs));
+      room = omega arith;
+      stands = λ i w. absurd (omega arith);
+      placed = λ s w. absurd (both_ways (waits (at ys s)) (ap (λ l. waits (at l s)) e ∙ none_at G (length xs) s) w);
+    }

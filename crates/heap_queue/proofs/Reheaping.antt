@@ -8,11 +8,16 @@ use Rattle.grades.specs.Keys.{before}
 use Rattle.grades.specs.Keyed.{before_asym}
 use Rattle.queues.specs.declared.slot.Slot.{Slot}
 use Rattle.queues.specs.declared.slot.Slot.TheVariants.{Idle, Waiting}
-use Rattle.queues.specs.Slots.{at, key_of, waits, ahead, First, yields}
+use Rattle.queues.specs.Slots.{at, waits, ahead, First, yields}
 use Rattle.heap_queue.specs.Heaps.{waiting, leads, parent, Indexed, Ordered, Rising, Sinking}
-use Rattle.queues.proofs.Precedence.{ahead_trans, idle-precedes}
+use Rattle.queues.proofs.Precedence.{ahead_trans}
 use Rattle.heap_queue.proofs.Heaping.{top_first}
 use Rattle.heap_queue.proofs.Indexing.{waiting_put, waiting_kept, waiting_taken, waiting_lt, apart, absent}
+
+-- what does not wait is ahead of nothing
+idle_ahead : {G : Type 0} (good : G → G → Bool) (i j : ℕ) (x y : Slot G) → waits x ≡ false → ahead good i x j y ≡ false
+idle_ahead good i j Idle y e = refl
+idle_ahead good i j (Waiting k) y e = absurd (both_ways true e refl)
 
 -- a place of a heap, by the slot that stands there, and back
 at_place : {G : Type 0} (xs : List (Slot G)) (p h : List ℕ) (k t : ℕ) → get_or h k 0 ≡ t → t < length xs → waits (at xs t) ≡ true → get_or p t 0 ≡ k → (get_or h k 0 < length xs) × (waits (at xs (get_or h k 0)) ≡ true) × (get_or p (get_or h k 0) 0 ≡ k)
@@ -193,6 +198,6 @@ module _ {G : Type 0} (good : G → G → Bool) (total : (a b : G) → good a b 
             (λ wait. let there = ix.placed j wait in
             leads_by good xs j (get_or heap 0 0) (get_or heap (get_or place j 0) 0) (get_or heap 0 0) (sym there.1) refl
             (top_first good total trans xs heap n (get_or place j 0) o there.0))
-            (λ idle. idle-precedes good total trans j (get_or heap 0 0) (key_of (at xs j)) (key_of (at xs (get_or heap 0 0))) idle)
+            (λ idle. idle_ahead good j (get_or heap 0 0) (at xs j) (at xs (get_or heap 0 0)) idle)
             (cases_Bool (waits (at xs j)));
       }

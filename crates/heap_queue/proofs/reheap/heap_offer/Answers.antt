@@ -37,7 +37,10 @@ pub append-requires : goal.append-requires
 append-requires g c =
     let e = c.in-Changed.ensures in
     let room = waiting_lt c.args.slots.now c.args.slot c.args.key.now e.0 (sym c.if-waited.ensures) in
-    (omega arith, omega arith)
+    record {
+      heap_room = omega arith;
+      place_room = omega arith;
+    }
 
 pub sift_up-requires-2 : goal.sift_up-requires-2
 sift_up-requires-2 g c =

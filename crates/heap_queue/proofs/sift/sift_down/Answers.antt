@@ -18,7 +18,12 @@ exchange-requires g c =
     let ix = l.invariant.1 in
     let long = in_heap c.args.slots.now l.heap l.place c.args.count ix in
     let pt = points_place c.args.slots.now l.heap l.place c.args.count ix in
-    (omega arith, omega arith, pt l.i l.invariant.0, pt c.leader-first.result c.leader-first.ensures.within)
+    record {
+      i_in_bounds = omega arith;
+      j_in_bounds = omega arith;
+      i_slot = pt l.i l.invariant.0;
+      j_slot = pt c.leader-first.result c.leader-first.ensures.within;
+    }
 
 pub loop-i-preserved : goal.loop-i-preserved
 loop-i-preserved g c =

@@ -7,7 +7,10 @@ pub leads-requires : goal.leads-requires
 leads-requires g c =
     let l = c.loop-i in
     let long = in_heap c.args.slots.now l.heap l.place c.args.count l.invariant.1 in
-    (omega arith, omega arith)
+    record {
+      i_in_bounds = omega arith;
+      j_in_bounds = omega arith;
+    }
 
 pub returns-then-not-leads : goal.returns-then-not-leads
 returns-then-not-leads g c =
@@ -22,7 +25,12 @@ exchange-requires g c =
     let l = c.loop-i in
     let long = in_heap c.args.slots.now l.heap l.place c.args.count l.invariant.1 in
     let pt = points_place c.args.slots.now l.heap l.place c.args.count l.invariant.1 in
-    (omega arith, omega arith, pt l.i (omega arith), pt c.parent-above.result (omega arith))
+    record {
+      i_in_bounds = omega arith;
+      j_in_bounds = omega arith;
+      i_slot = pt l.i (omega arith);
+      j_slot = pt c.parent-above.result (omega arith);
+    }
 
 pub loop-i-preserved : goal.loop-i-preserved
 loop-i-preserved g c =

@@ -8,11 +8,11 @@ use Rattle.board.specs.Views.{view_of}
 use Rattle.board.proofs.Places.{used, place_left, ends_within, via_apart}
 use Rattle.board.proofs.board.Board.add_via.Goals as goal
 
-pub push-link-requires : goal.push-link-requires
-push-link-requires g c =
+pub push_link-requires : goal.push_link-requires
+push_link-requires g c =
     let b = c.args.self.now in
-    let passed = c.in-ok-check-join.ensures in
-    let joined = c.in-ok-via.ensures in
+    let passed = c.in_ok-check_join.ensures in
+    let joined = c.in_ok-via.ensures in
     let left = place_left b.links.now b.link_count 16384 b.links_fit passed.0 in
     let in-board = ends_within b.points.now b.point_count b.points_fit c.args.from c.args.to passed.1.1.0 in
     let s = closed_of b.stackup in
@@ -25,8 +25,8 @@ push-link-requires g c =
 pub returns : goal.returns
 returns g c =
     let b = view_of c.args.self.now in
-    let joined = c.in-ok-via.ensures in (
-      passed_both (join_checks b c.args.from c.args.to c.args.gap) (via_check b.stack.spans b.points c.args.from c.args.to ∷ []) c.in-ok-check-join.ensures joined.0,
-      c.push-link.ensures.number,
-      (joined.1.0, joined.1.1, c.push-link.ensures.after ∙ ap (λ (l : Link). with_link b l) joined.1.2),
+    let joined = c.in_ok-via.ensures in (
+      passed_both (join_checks b c.args.from c.args.to c.args.gap) (via_check b.stack.spans b.points c.args.from c.args.to ∷ []) c.in_ok-check_join.ensures joined.0,
+      c.push_link.ensures.number,
+      (joined.1.0, joined.1.1, c.push_link.ensures.after ∙ ap (λ (l : Link). with_link b l) joined.1.2),
     )
