@@ -1,9 +1,8 @@
 -- What a search over the lent tables says of the board.
-use Rattle.std.proofs.Common.{◌≡◌, ℕ, ◌-◌, ◌<◌, ◌≤◌, List, [], ◌∷◌, ◌++◌, length, take, drop, Option, sym, refl, ap, ◌∙◌, subst, arith}
+use Rattle.std.proofs.Common.{◌≡◌, ℕ, ◌-◌, List, length, take, drop, Option, sym, ap, ◌∙◌, subst, arith}
 use Rattle.faults.specs.declared.Fault.{Fault}
 use Rattle.faults.specs.Checks.{Refused, Passed}
 use Rattle.queues.specs.Slots.{Model}
-use Rattle.search.specs.Answers.{Figures}
 use Rattle.search.specs.Results.{Searched}
 use Rattle.stackup.specs.Stacks.{Stack}
 use Rattle.tables.specs.declared.plan.Plan.{Plan}

@@ -1,5 +1,5 @@
 -- Boards, by what they hold.
-use Rattle.std.specs.Prelude.{List, [], ◌∷◌, Some, None, Option}
+use Rattle.std.specs.Prelude.{List, [], None, Option}
 use Rattle.stackup.specs.Stacks.{Stack}
 use Rattle.tables.specs.declared.plan.Plan.{Plan}
 use Rattle.tables.specs.declared.table.Label.{Label}

@@ -1,5 +1,5 @@
 -- Little-endian numbers in a list of bytes.
-use Rattle.std.specs.Prelude.{ℕ, zero, suc, ◌+◌, ◌*◌, List, [], ◌∷◌, slice_index}
+use Rattle.std.specs.Prelude.{ℕ, zero, suc, ◌+◌, ◌*◌, List, slice_index}
 
 -- the number of w bytes that stands at place i, the lowest byte first; a byte that is wanting counts as 0
 abbrev pub number_at : ℕ → List ℕ → ℕ → ℕ

@@ -1,9 +1,9 @@
 -- What an exchange of two places does to the order of a heap.
-use Rattle.std.proofs.Common.{◌≡◌, ℕ, zero, suc, ◌+◌, ◌-◌, ◌*◌, ◌/◌, ◌<◌, ◌≤◌, Bool, true, false, cond, ◌&&◌, ltb, ◌⊎◌, List, [], ◌∷◌, length, get_or, sym, refl, ap, ◌∙◌, inl, inr, ⊎_elim, arith}
-use Rattle.std.proofs.lemmas.Bool.{cases_eq, ltb-true, cases_Bool}
+use Rattle.std.proofs.Common.{◌≡◌, ℕ, zero, suc, ◌+◌, ◌*◌, ◌<◌, ◌≤◌, Bool, true, false, cond, ◌&&◌, ltb, List, get_or, sym, refl, ap, ◌∙◌, ⊎_elim, arith}
+use Rattle.std.proofs.lemmas.Bool.{cases_eq, ltb-true}
 use Rattle.std.proofs.lemmas.Bool.Decides.{nat_tests}
 use Rattle.queues.specs.declared.slot.Slot.{Slot}
-use Rattle.queues.specs.Slots.{at, waits, ahead}
+use Rattle.queues.specs.Slots.{at}
 use Rattle.heap_queue.specs.Heaps.{leads, parent, Ordered, Rising, Sinking, Leading, Swapped, pick}
 use Rattle.queues.proofs.Precedence.{ahead_trans, ahead_asym, ahead_irrefl}
 

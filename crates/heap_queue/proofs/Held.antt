@@ -1,5 +1,5 @@
 -- The heap as a queue holds it, and the same where the tables have other names.
-use Rattle.std.proofs.Common.{◌≡◌, ℕ, zero, suc, ◌+◌, ◌<◌, ◌≤◌, Bool, true, false, List, [], ◌∷◌, length, get_or, set, replicate, Some, sym, refl, ap, ◌∙◌, arith}
+use Rattle.std.proofs.Common.{◌≡◌, ℕ, zero, suc, ◌<◌, Bool, true, false, List, length, set, replicate, Some, sym, refl, ap, ◌∙◌, arith}
 use Rattle.std.proofs.lemmas.List.{length-replicate}
 use Rattle.std.proofs.lemmas.Bool.{both_ways}
 use Rattle.queues.specs.declared.slot.Slot.{Slot}
@@ -8,7 +8,7 @@ use Rattle.grades.specs.declared.key.Key.{Key}
 use Rattle.queues.specs.declared.slot.Offer.{Offer}
 use Rattle.queues.specs.declared.slot.Offer.TheVariants.{Changed, Kept, NoSlot}
 use Rattle.queues.specs.Slots.{at, waits, First, SlotOffer, SlotTake}
-use Rattle.heap_queue.specs.Heaps.{waiting, Indexed, Ordered, Rising, Sinking, Stands, Placed}
+use Rattle.heap_queue.specs.Heaps.{waiting, Indexed, Ordered, Rising, Sinking}
 
 -- what holds of tables holds of the same tables under other names
 pub indexed_as : {G : Type 0} {xs ys : List (Slot G)} {h i p q : List ℕ} {n m : ℕ} → xs ≡ ys → h ≡ i → p ≡ q → n ≡ m → Indexed ys i q m → Indexed xs h p n

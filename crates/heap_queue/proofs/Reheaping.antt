@@ -1,15 +1,14 @@
 -- The heap where a slot begins to wait, waits with another key, or is taken.
-use Rattle.std.proofs.Common.{◌≡◌, ℕ, zero, suc, ◌+◌, ◌-◌, ◌/◌, ◌<◌, ◌≤◌, Bool, true, false, ◌⊎◌, List, [], ◌∷◌, length, get_or, set, sym, refl, ap, ◌∙◌, inl, inr, ⊎_elim, arith}
+use Rattle.std.proofs.Common.{◌≡◌, ℕ, ◌+◌, ◌<◌, Bool, true, false, List, length, get_or, set, sym, refl, ap, ◌∙◌, ⊎_elim, arith}
 use Rattle.std.proofs.lemmas.List.{get_or-set_same, get_or-set_other, length-set}
 use Rattle.std.proofs.lemmas.Bool.{cases_eq, cases_Bool, both_ways}
 use Rattle.std.proofs.lemmas.Bool.Decides.{nat_tests}
 use Rattle.grades.specs.declared.key.Key.{Key}
-use Rattle.grades.specs.Keys.{before}
 use Rattle.grades.specs.Keyed.{before_asym}
 use Rattle.queues.specs.declared.slot.Slot.{Slot}
 use Rattle.queues.specs.declared.slot.Slot.TheVariants.{Idle, Waiting}
 use Rattle.queues.specs.Slots.{at, waits, ahead, First, yields}
-use Rattle.heap_queue.specs.Heaps.{waiting, leads, parent, Indexed, Ordered, Rising, Sinking}
+use Rattle.heap_queue.specs.Heaps.{leads, parent, Indexed, Ordered, Rising, Sinking}
 use Rattle.queues.proofs.Precedence.{ahead_trans}
 use Rattle.heap_queue.proofs.Heaping.{top_first}
 use Rattle.heap_queue.proofs.Indexing.{waiting_put, waiting_kept, waiting_taken, waiting_lt, apart, absent}

@@ -1,5 +1,5 @@
 -- What a waiting queue means: which slots wait, each with a key, and how many were taken since the last clearing.
-use Rattle.std.specs.Prelude.{◌≡◌, ℕ, ◌+◌, ◌-◌, ◌^◌, ◌<◌, ◌≤◌, min, Bool, true, false, not, ◌&&◌, ◌||◌, List, [], ◌∷◌, length, replicate, Some, None, Option, nat_lt, slice_index_or, slice_set}
+use Rattle.std.specs.Prelude.{◌≡◌, ℕ, ◌+◌, ◌-◌, ◌^◌, ◌<◌, ◌≤◌, min, Bool, true, false, not, ◌&&◌, ◌||◌, List, length, replicate, Some, None, Option, nat_lt, slice_index_or, slice_set}
 use Rattle.grades.specs.declared.key.Key.{Key}
 use Rattle.grades.specs.Keys.{before}
 use Rattle.queues.specs.declared.slot.Slot.{Slot}

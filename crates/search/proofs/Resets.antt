@@ -1,8 +1,7 @@
 -- What a cleared queue and wiped tables give the two parts of a search.
-use Rattle.std.proofs.Common.{◌≡◌, ℕ, ◌<◌, ◌≤◌, ◌⊎◌, length, get_or, replicate, ap, ◌∙◌, inl, inr}
+use Rattle.std.proofs.Common.{◌≡◌, ℕ, ◌<◌, ◌≤◌, ◌⊎◌, length, get_or, replicate, ap, inl, inr}
 use Rattle.std.proofs.lemmas.List.{get_or-replicate, get_or_past, length-replicate}
 use Rattle.std.proofs.lemmas.Bool.{cases_lt}
-use Rattle.queues.specs.declared.slot.Slot.{Slot}
 use Rattle.queues.specs.declared.slot.Slot.TheVariants.{Idle}
 use Rattle.queues.specs.Slots.{Model, NoneWaits, waits, cleared}
 

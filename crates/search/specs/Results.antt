@@ -1,5 +1,5 @@
 -- What an accepted search leaves.
-use Rattle.std.specs.Prelude.{◌≡◌, ℕ, ◌+◌, ◌*◌, ◌<◌, ◌≤◌, Bool, true, false, List}
+use Rattle.std.specs.Prelude.{◌≡◌, ℕ, ◌*◌, ◌<◌, ◌≤◌, true, false, List}
 use Rattle.buckets.specs.Results.{KeptOrBlank, Chained, GivenKept}
 use Rattle.delays.specs.Delays.{Walk}
 use Rattle.queues.specs.Slots.{Model, NoneWaits}

@@ -1,4 +1,4 @@
-use Rattle.std.proofs.Common.{sym, ◌∙◌, subst, arith}
+use Rattle.std.proofs.Common.{sym, arith}
 use Rattle.heap_queue.proofs.Indexing.{in_heap, points_place, exchanged}
 use Rattle.heap_queue.proofs.Heaping.{sinking_step, sinking_done}
 use Rattle.heap_queue.proofs.sift.sift_down.Goals as goal

@@ -1,4 +1,3 @@
-use Rattle.std.proofs.Common.{◌≡◌, sym, ap, ◌∙◌}
 use Rattle.queues.proofs.Steps.{taken_alike}
 use Rattle.queues.proofs.alike.take_both.Goals as goal
 

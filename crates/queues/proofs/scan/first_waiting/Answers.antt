@@ -1,7 +1,7 @@
 use Rattle.std.proofs.Common.{sym, ap, ◌∙◌, arith}
 use Rattle.std.proofs.lemmas.List.{get_or_read}
 use Rattle.queues.specs.declared.slot.Slot.TheVariants.{Idle}
-use Rattle.queues.specs.Slots.{waits, at}
+use Rattle.queues.specs.Slots.{waits}
 use Rattle.queues.proofs.Precedence.{leads_new, leads_old, leads_all, leads_none, at_past}
 use Rattle.queues.proofs.scan.first_waiting.Goals as goal
 use Rattle.queues.proofs.scan.first_waiting.Goals.{then-ahead, else-ahead, else-first-slots-via-then-first-slots+else-waits, else-first-slots-via-else-first-slots}

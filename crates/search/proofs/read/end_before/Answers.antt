@@ -1,6 +1,5 @@
-use Rattle.std.proofs.Common.{◌≡◌, ℕ, Bool, true, false, cond, eqb, sym, refl, ap}
+use Rattle.std.proofs.Common.{◌≡◌, ℕ, Bool, true, false, cond, eqb, refl}
 use Rattle.std.proofs.lemmas.List.{get_or_past}
-use Rattle.tables.specs.declared.table.Link.{Link}
 use Rattle.tables.specs.Tables.{no_link}
 use Rattle.search.proofs.read.end_before.Goals as goal
 

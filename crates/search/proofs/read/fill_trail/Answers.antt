@@ -1,6 +1,5 @@
-use Rattle.std.proofs.Common.{◌≡◌, ℕ, ◌+◌, ◌-◌, ◌*◌, ◌≤◌, List, ◌++◌, length, drop, sym, refl, ap, ◌∙◌, arith, rules}
-use Rattle.tables.specs.declared.table.Label.{Label}
-use Rattle.search.specs.Trails.{trail, end_before}
+use Rattle.std.proofs.Common.{◌≡◌, ℕ, ◌≤◌, ◌++◌, length, drop, sym, ap, ◌∙◌, arith}
+use Rattle.search.specs.Trails.{trail}
 use Rattle.search.proofs.Trailing.{trail_more}
 use Rattle.search.proofs.read.fill_trail.Goals as goal
 

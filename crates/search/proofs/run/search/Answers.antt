@@ -1,4 +1,4 @@
-use Rattle.std.proofs.Common.{◌*◌, length, refl}
+use Rattle.std.proofs.Common.{length, refl}
 use Rattle.std.proofs.lemmas.Result.{err_from_is_err_and}
 use Rattle.faults.proofs.Checking.{refused_first}
 use Rattle.tables.specs.Plans.{places_of}

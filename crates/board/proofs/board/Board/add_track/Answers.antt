@@ -1,6 +1,5 @@
-use Rattle.std.proofs.Common.{◌<◌, inl, arith}
-use Rattle.tables.specs.Tables.{Ends}
-use Rattle.board.proofs.Places.{used, place_left, ends_within}
+use Rattle.std.proofs.Common.{inl}
+use Rattle.board.proofs.Places.{place_left, ends_within}
 use Rattle.board.proofs.board.Board.add_track.Goals as goal
 
 pub push_link-requires : goal.push_link-requires

@@ -1,11 +1,10 @@
-use Rattle.std.proofs.Common.{◌≡◌, ◌<◌, [], ◌∷◌, take, ap, ◌∙◌, arith}
+use Rattle.std.proofs.Common.{[], ◌∷◌, take, ap, ◌∙◌}
 use Rattle.faults.proofs.Checking.{passed_both}
 use Rattle.stackup.specs.Views.{closed_of}
 use Rattle.tables.specs.declared.table.Link.{Link}
-use Rattle.tables.specs.Tables.{Ends}
 use Rattle.board.specs.Edits.{join_checks, via_check, with_link}
 use Rattle.board.specs.Views.{view_of}
-use Rattle.board.proofs.Places.{used, place_left, ends_within, via_apart}
+use Rattle.board.proofs.Places.{place_left, ends_within, via_apart}
 use Rattle.board.proofs.board.Board.add_via.Goals as goal
 
 pub push_link-requires : goal.push_link-requires

@@ -1,4 +1,4 @@
-use Rattle.std.proofs.Common.{◌≡◌, sym, ◌∙◌, rules}
+use Rattle.std.proofs.Common.{rules}
 use Rattle.std.proofs.lemmas.List.{get_or-take}
 use Rattle.board.specs.Points.{no_point}
 use Rattle.board.proofs.board.Board.point_at.Goals as goal

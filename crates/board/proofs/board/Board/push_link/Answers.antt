@@ -1,5 +1,4 @@
-use Rattle.std.proofs.Common.{◌≡◌, ◌+◌, take, sym, ◌∙◌, arith, length-set}
-use Rattle.tables.specs.Tables.{Joined}
+use Rattle.std.proofs.Common.{take, sym, ◌∙◌, arith, length-set}
 use Rattle.board.proofs.Joining.{joined_push}
 use Rattle.board.proofs.Places.{used, used_more, link_added}
 use Rattle.board.proofs.board.Board.push_link.Goals as goal

@@ -1,13 +1,11 @@
-use Rattle.std.proofs.Common.{◌≡◌, ℕ, ◌+◌, ◌*◌, List, [], ◌∷◌, ◌++◌, length, take, drop, Option, sym, refl, ap, ◌∙◌, subst, inl, inr}
+use Rattle.std.proofs.Common.{◌≡◌, ℕ, ◌+◌, ◌*◌, List, [], ◌∷◌, ◌++◌, length, take, drop, Option, sym, refl, ap, ◌∙◌, subst, inr}
 use Rattle.std.proofs.lemmas.Result.{err_from_is_err_and}
 use Rattle.faults.specs.Checks.{Passed, Refused}
 use Rattle.search.specs.Trails.{trail, list_check}
 use Rattle.tables.specs.declared.plan.Plan.{Plan}
 use Rattle.tables.specs.declared.table.Label.{Label}
 use Rattle.tables.specs.declared.table.Link.{Link}
-use Rattle.tables.specs.declared.table.Mark.TheVariants.{Kept}
 use Rattle.tables.specs.Tables.{label_at}
-use Rattle.board.specs.declared.point.Route.{Route}
 use Rattle.board.specs.Routes.{given_label, route_of, standing_checks}
 use Rattle.board.specs.Views.{view_of}
 use Rattle.board.proofs.Lending.{lent_part}

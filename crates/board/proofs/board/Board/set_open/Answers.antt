@@ -1,4 +1,4 @@
-use Rattle.std.proofs.Common.{◌≡◌, ◌<◌, ◌∙◌, arith, length-set, rules}
+use Rattle.std.proofs.Common.{◌<◌, ◌∙◌, arith, length-set}
 use Rattle.board.proofs.Joining.{joined_marked}
 use Rattle.board.proofs.Places.{used, mark_set}
 use Rattle.board.proofs.board.Board.set_open.Goals as goal

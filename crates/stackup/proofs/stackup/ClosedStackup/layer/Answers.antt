@@ -1,4 +1,4 @@
-use Rattle.std.proofs.Common.{vec_items, sym, ◌∙◌, arith}
+use Rattle.std.proofs.Common.{vec_items, sym, arith}
 use Rattle.std.proofs.lemmas.List.{get_or_past}
 use Rattle.stackup.specs.Stacks.{no_layer}
 use Rattle.stackup.proofs.stackup.ClosedStackup.layer.Goals as goal
