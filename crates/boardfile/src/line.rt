@@ -67,8 +67,5 @@ pub fn text(heap: Global, line: Line) -> Result<String, AllocError>
 pub fn append(out: &mut String, line: Line) -> fmt::Result
     ensures { OnOk result (string_bytes out.new ≡ string_bytes out.old ++ line_text line) }
 {
-    match write!(out, "{line}") {
-        Ok(()) => Ok(()),
-        Err(_) => Err(fmt::Error),
-    }
+    write!(out, "{line}").map_err(fmt::Error::from)
 }

@@ -197,16 +197,16 @@ module _ {G : Type 0} (initial : G) (p : Plan) (links : List Link) (i : ℕ) (hi
 
 -- ---- the first bucket
 module _ {G : Type 0} (initial : G) (p : Plan) (links : List Link) (os : List Outcome) (labels : List (Label G)) (room : p.points * p.buckets ≤ length labels)
-    (blank : (q : ℕ) → q < p.points * p.buckets → label_at initial labels q ≡ empty_label initial) (none-given : (v : ℕ) → v < p.points → (outcome_at os v).given ≡ 0) where
+    (blank : (q : ℕ) → q < p.points * p.buckets → label_at initial labels q ≡ empty_label initial) (none_given : (v : ℕ) → v < p.points → (outcome_at os v).given ≡ 0) where
   some : 0 < p.buckets
   some = omega (arith, p.cut)
 
   books_begin : Books initial p links 0 os (set labels (p.source * p.buckets + 0) (marked Waiting (empty_label initial)))
   books_begin = record {
-    within = λ v l. omega (arith, none-given v l, some);
-    given = λ v l. omega (arith, none-given v l);
+    within = λ v l. omega (arith, none_given v l, some);
+    given = λ v l. omega (arith, none_given v l);
     sound = sound_begin initial p links labels room some (λ v b hv hb. blank (v * p.buckets + b) (place_below v p.points b p.buckets hv hb));
-    last = λ v l. inr (none-given v l);
+    last = λ v l. inr (none_given v l);
   }
 
   pub begin_ready : (slots : List (Slot G)) → NoneWaits slots → p.points ≤ length slots → Ready initial p links 0 os (set labels (p.source * p.buckets + 0) (marked Waiting (empty_label initial))) slots

@@ -47,10 +47,10 @@ module _ {G : Type 0} (good : G → G → Bool) (initial : G) (p : Plan) (b : �
   module _ (m : ℕ) (slots slots' : List (Slot G)) (within : m < length slots) (f : Loaded initial p b m labels slots) where
     -- the label of point m does not wait
     passed : ((label_in initial p labels m b).mark ≡ Waiting → ⊥) → Loaded initial p b (m + 1) labels slots
-    passed not-one = record {
+    passed not_one = record {
       pending = λ s w. let h = f.pending s w in (omega arith, h.1);
       queued = λ v l e. elim (cases_eq v m) [
-        | inl q ↦ absurd (not-one (rw q at e))
+        | inl q ↦ absurd (not_one (rw q at e))
         | inr ne ↦ f.queued v (omega arith) e
       ];
     }

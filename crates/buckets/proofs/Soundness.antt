@@ -149,9 +149,9 @@ module _ {G : Type 0} (initial : G) (p : Plan) (links : List Link) where
     left v b l Dropped e no' x = sound_blank (i + 1) v b labels'
 
     pub sound_swept : ((v : ℕ) → v < p.points → (label_in initial p labels v i).mark ≡ Waiting → ⊥) → AllSound i labels → AllSound (i + 1) labels'
-    sound_swept none-waits all v b hv hb = elim (swept_cases v b hv hb) [
+    sound_swept none_waits all v b hv hb = elim (swept_cases v b hv hb) [
       | inl x ↦ subst (λ (l : Label G). Sound initial p links (i + 1) labels' v b l) (sym x.1)
-          (left v b (label_in initial p labels v b) (label_in initial p labels v b).mark refl (λ w. none-waits v hv (rw x.0 at w)) (all v b hv hb))
+          (left v b (label_in initial p labels v b) (label_in initial p labels v b).mark refl (λ w. none_waits v hv (rw x.0 at w)) (all v b hv hb))
       | inr x ↦ subst (λ (l : Label G). Sound initial p links (i + 1) labels' v b l) (sym x.1)
           (next v b (label_in initial p labels v b) (all v b hv hb) (λ lt. (all v b hv hb).done (let ne : b ≡ i → ⊥ = x.0 in omega arith)))
     ]

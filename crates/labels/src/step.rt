@@ -70,7 +70,7 @@ pub fn settle<G: Grade>(
     requires labels_room { plan.points * plan.buckets ≤ length labels.old }
     requires bucket_within { bucket < plan.buckets }
     requires point_within { point < plan.points }
-    requires given_below { (outcome_at outcomes.old point).given ≤ bucket }
+    requires given_upto { (outcome_at outcomes.old point).given ≤ bucket }
     ensures { Settled G.Order.as_good G.Grade.initial plan.buckets bucket point outcomes.old labels.old result outcomes.new labels.new }
 {
     let label = label_at(plan, labels, point, bucket);

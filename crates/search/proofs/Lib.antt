@@ -1,2 +1,3 @@
 pub mod Resets
 pub mod Trailing
+pub mod Refusing

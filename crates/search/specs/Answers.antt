@@ -13,9 +13,9 @@ use Rattle.tables.specs.Searches.{search_checks}
 use Rattle.search.specs.Results.{Searched}
 
 -- the figures of a search, by the rules
-pub record Figures (n source-point most tolerance : ℕ) (p : Plan) : Type 0 where
+pub record Figures (n source_point most tolerance : ℕ) (p : Plan) : Type 0 where
   pub points : p.points ≡ n
-  pub source : p.source ≡ source-point
+  pub source : p.source ≡ source_point
   pub bound : p.bound ≡ most
   pub ceiling : p.ceiling ≡ ceiling_of most tolerance
   pub width : p.width ≡ width_of (allowance_of most tolerance) n

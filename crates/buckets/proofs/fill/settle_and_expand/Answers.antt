@@ -9,7 +9,7 @@ settle-requires g c = record {
   labels_room = c.requires.labels_room;
   bucket_within = c.requires.bucket_within;
   point_within = c.requires.taking.point;
-  given_below = c.requires.taking.books.given c.args.point c.requires.taking.point;
+  given_upto = c.requires.taking.books.given c.args.point c.requires.taking.point;
 }
 
 pub expand-requires : goal.expand-requires

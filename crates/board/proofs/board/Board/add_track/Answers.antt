@@ -8,5 +8,5 @@ push_link-requires g c =
     let passed = c.in_ok-check_join.ensures in
     let joined = c.in_ok-track.ensures in
     let left = place_left b.links.now b.link_count 16384 b.links_fit passed.0 in
-    let in-board = ends_within b.points.now b.point_count b.points_fit c.args.from c.args.to passed.1.1.0 in
-    record { room = left.0; few = left.1; ends = rw joined.1 (in-board.0, in-board.1, λ e. joined.0.0 (inl e)) }
+    let in_board = ends_within b.points.now b.point_count b.points_fit c.args.from c.args.to passed.1.1.0 in
+    record { room = left.0; few = left.1; ends = rw joined.1 (in_board.0, in_board.1, λ e. joined.0.0 (inl e)) }
