@@ -1,5 +1,5 @@
 -- A binary heap of waiting slots: the slots in heap order, and for each slot its place there.
-use Rattle.std.specs.Prelude.{◌≡◌, ℕ, ◌+◌, ◌-◌, ◌/◌, ◌<◌, ◌≤◌, Bool, true, false, cond, ◌&&◌, List, [], ◌∷◌, length, ◌≢◌, nat_lt, slice_index, slice_index_or}
+use Rattle.std.specs.Prelude.{◌≡◌, ℕ, ◌+◌, ◌-◌, ◌/◌, ◌<◌, ◌≤◌, Bool, true, false, cond, ◌&&◌, List, [], ◌∷◌, length, ◌≢◌, nat_lt, slice_index}
 use Rattle.queues.specs.declared.slot.Slot.{Slot}
 use Rattle.queues.specs.Slots.{at, waits, ahead}
 
@@ -56,8 +56,8 @@ pub record Leading {G : Type 0} (good : G → G → Bool) (xs : List (Slot G)) (
 
 -- two places are exchanged
 pub record Swapped (heap after : List ℕ) (i j : ℕ) : Type 0 where
-  pub left : slice_index_or after i 0 ≡ slice_index heap j
-  pub right : slice_index_or after j 0 ≡ slice_index heap i
+  pub left : slice_index after i ≡ slice_index heap j
+  pub right : slice_index after j ≡ slice_index heap i
   pub rest : (k : ℕ) → (k ≢ i) → (k ≢ j) → slice_index after k ≡ slice_index heap k
 
 -- of two places the one whose slot is taken first; j may lie past the count

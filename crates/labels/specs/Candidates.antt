@@ -1,5 +1,5 @@
 -- Candidates for a place, and which of them is chosen.
-use Rattle.std.specs.Prelude.{Bool, true, false, cond, not, ℕ, ◌+◌, ◌-◌, ◌^◌, min, ltb}
+use Rattle.std.specs.Prelude.{Bool, true, false, cond, not, ℕ, ◌+◌, ◌-◌, ◌^◌, min, nat_lt}
 use Rattle.grades.specs.declared.LinkCost.{LinkCost}
 use Rattle.grades.specs.declared.key.Key.{Key}
 use Rattle.grades.specs.Keys.{before}
@@ -21,7 +21,7 @@ extended after l bucket k link =
 abbrev pub ahead_of : {G : Type 0} → (G → G → Bool) → Label G → Label G → Bool
 ahead_of good new old =
     cond (before good (key_of new) (key_of old)) true
-    (cond (before good (key_of old) (key_of new)) false (ltb new.link old.link))
+    (cond (before good (key_of old) (key_of new)) false (nat_lt new.link old.link))
 
 -- whether a candidate is chosen over what stands at its place, by the mark there
 abbrev pub chosen_over : {G : Type 0} → (G → G → Bool) → Label G → Label G → Mark → Bool

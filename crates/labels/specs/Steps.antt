@@ -1,5 +1,5 @@
 -- What the single steps do to the tables and to the slots.
-use Rattle.std.specs.Prelude.{◌≡◌, Bool, true, false, cond, ◌⊎◌, List, ℕ, ◌+◌, ◌*◌, ◌/◌, ◌≤◌, ◌<◌, set}
+use Rattle.std.specs.Prelude.{◌≡◌, Bool, true, false, cond, ◌⊎◌, List, ℕ, ◌+◌, ◌*◌, ◌/◌, ◌≤◌, ◌<◌, slice_set}
 use Rattle.queues.specs.declared.slot.Slot.{Slot}
 use Rattle.queues.specs.declared.slot.Offer.{Offer}
 use Rattle.queues.specs.Slots.{SlotOffer}
@@ -25,7 +25,7 @@ Tried good initial os buckets ceiling width bucket to new labels slots labels' s
     (((ceiling < new.delay) ⊎ ((reached_at os to ≡ false) ⊎ (chosen_over good new (label_at initial labels p) (label_at initial labels p).mark ≡ false)))
     × (labels' ≡ labels) × (slots' ≡ slots))
     ⊎ ((new.delay ≤ ceiling) × (reached_at os to ≡ true) × (chosen_over good new (label_at initial labels p) (label_at initial labels p).mark ≡ true)
-    × (labels' ≡ set labels p new)
+    × (labels' ≡ slice_set labels p new)
     × (((new.delay / width ≡ bucket) × ((r : Offer) × SlotOffer good slots to (key_of new) slots' r))
     ⊎ ((new.delay / width ≡ bucket → ⊥) × (slots' ≡ slots))))
 
@@ -35,8 +35,8 @@ Settled good initial buckets bucket point os labels kept os' labels' =
     let label = label_at initial labels (point * buckets + bucket) in
     let last = label_at initial labels (point * buckets + (outcome_at os point).given) in
     (kept ≡ improves_on good label last last.mark)
-    × (labels' ≡ set labels (point * buckets + bucket) (marked (cond kept Kept Dropped) label))
-    × (os' ≡ cond kept (set os point (regiven bucket (outcome_at os point))) os)
+    × (labels' ≡ slice_set labels (point * buckets + bucket) (marked (cond kept Kept Dropped) label))
+    × (os' ≡ cond kept (slice_set os point (regiven bucket (outcome_at os point))) os)
 
 -- a point offered at the key of its label, if by its mark the label waits
 abbrev pub OfferedIf : {G : Type 0} → (G → G → Bool) → List (Slot G) → ℕ → Label G → Mark → List (Slot G) → Type 0
@@ -50,4 +50,4 @@ abbrev pub SweptIf : {G : Type 0} → G → List (Label G) → ℕ → Mark → 
 SweptIf initial labels p Empty labels' = labels' ≡ labels
 SweptIf initial labels p Kept labels' = labels' ≡ labels
 SweptIf initial labels p Waiting labels' = labels' ≡ labels
-SweptIf initial labels p Dropped labels' = labels' ≡ set labels p (empty_label initial)
+SweptIf initial labels p Dropped labels' = labels' ≡ slice_set labels p (empty_label initial)
