@@ -1,3 +1,1 @@
-pub mod Joining
-pub mod Places
-pub mod Lending
+pub mod Reading

@@ -12,19 +12,16 @@ use Rattle.board.specs.declared.point.Point.{Point}
 use Rattle.board.specs.Points.{point_at, PointNo}
 use Rattle.board.specs.Boards.{BoardState}
 
+-- a table with so many entries in use, so many free, and no more than `most` in all has room for another
+abbrev pub room_check : ℕ → ℕ → ℕ → Check
+room_check used free most = let room = min (used + free) most in if_fails (room ≤ used) (Full room)
+
 module _ {G : Type 0} (b : BoardState G) where
-  -- what the point table and the link table can hold
-  abbrev pub point_room : ℕ
-  point_room = min (length b.points + length b.points_free) 4096
-
-  abbrev pub link_room : ℕ
-  link_room = min (length b.links + length b.links_free) 16384
-
   abbrev pub point_room_check : Check
-  point_room_check = if_fails (point_room ≤ length b.points) (Full point_room)
+  point_room_check = room_check (length b.points) (length b.points_free) 4096
 
   abbrev pub link_room_check : Check
-  link_room_check = if_fails (link_room ≤ length b.links) (Full link_room)
+  link_room_check = room_check (length b.links) (length b.links_free) 16384
 
   -- a point and a link by number
   abbrev pub point_check : ℕ → Check

@@ -3,6 +3,7 @@ use Rattle.std.specs.Prelude.{◌≡◌, ℕ, ◌+◌, ◌*◌, List, [], ◌∷
 use Rattle.faults.specs.declared.Fault.{Fault}
 use Rattle.faults.specs.declared.Fault.TheVariants.{NotSearched, NoRoute}
 use Rattle.faults.specs.Checks.{Check, Refused, Passed, if_fails}
+use Rattle.grades.specs.declared.key.Key.{Key}
 use Rattle.queues.specs.Slots.{Model}
 use Rattle.search.specs.Answers.{Figures}
 use Rattle.search.specs.Results.{Searched}
@@ -14,7 +15,6 @@ use Rattle.tables.specs.declared.table.Mark.TheVariants.{Kept}
 use Rattle.tables.specs.declared.table.Outcome.{Outcome}
 use Rattle.tables.specs.Searches.{search_checks}
 use Rattle.tables.specs.Tables.{label_at, outcome_at}
-use Rattle.board.specs.declared.point.Route.{Route}
 use Rattle.board.specs.Boards.{BoardState}
 use Rattle.board.specs.Edits.{point_check}
 
@@ -53,14 +53,18 @@ Untouched (Err f) queue queue' = queue' ≡ queue
 abbrev pub given_label : {G : Type 0} → G → BoardState G → Plan → ℕ → Label G
 given_label initial b p v = label_at initial b.labels (v * p.buckets + (outcome_at b.outcomes v).given)
 
-abbrev pub route_of : {G : Type 0} → Label G → Route G
-route_of l = record { grade = l.grade; delay = l.delay; count = l.count }
-
 -- the checks of a reading into a list of so many places, once a search stands
 abbrev pub route_checks : {G : Type 0} → G → BoardState G → Plan → ℕ → ℕ → List Check
 route_checks initial b p v room =
     if_fails ((given_label initial b p v).mark ≢ Kept) (NoRoute v)
-    ∷ list_check (given_label initial b p v).count room ∷ []
+    ∷ list_check (given_label initial b p v).key.count room ∷ []
+
+-- by the figures p of the search that stands, a reading answers the key of the given label and writes the links of its route, source first, or is refused and writes nothing
+abbrev pub ReadsBy : {G : Type 0} → G → BoardState G → Plan → ℕ → List ℕ → Result (Key G) Fault → List ℕ → Type 0
+ReadsBy initial b p v list (Ok r) list' =
+    Passed (route_checks initial b p v (length list)) × (r ≡ (given_label initial b p v).key)
+    × (list' ≡ trail initial b.links p.buckets b.labels v (outcome_at b.outcomes v).given r.count ++ drop r.count list)
+ReadsBy initial b p v list (Err f) list' = Refused (route_checks initial b p v (length list)) f × (list' ≡ list)
 
 abbrev pub standing_checks : {G : Type 0} → G → BoardState G → Option Plan → ℕ → ℕ → List Check
 standing_checks initial b None v room = if_fails (Unit {0}) NotSearched ∷ []
@@ -70,9 +74,9 @@ abbrev pub read_checks : {G : Type 0} → G → BoardState G → ℕ → ℕ →
 read_checks initial b v room = point_check b v ∷ standing_checks initial b b.standing v room
 
 -- a reading answers the given label's route and writes its links, source first, or is refused and writes nothing
-abbrev pub Reads : {G : Type 0} → G → BoardState G → ℕ → List ℕ → Result (Route G) Fault → List ℕ → Type 0
+abbrev pub Reads : {G : Type 0} → G → BoardState G → ℕ → List ℕ → Result (Key G) Fault → List ℕ → Type 0
 Reads initial b v list (Ok r) list' =
     Passed (read_checks initial b v (length list))
-    × ((p : Plan) × (b.standing ≡ Some p) × (r ≡ route_of (given_label initial b p v))
+    × ((p : Plan) × (b.standing ≡ Some p) × (r ≡ (given_label initial b p v).key)
     × (list' ≡ trail initial b.links p.buckets b.labels v (outcome_at b.outcomes v).given r.count ++ drop r.count list))
 Reads initial b v list (Err f) list' = Refused (read_checks initial b v (length list)) f × (list' ≡ list)

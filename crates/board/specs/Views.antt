@@ -1,5 +1,4 @@
 -- The board that a value of the code stands for.
-use Rattle.std.specs.Prelude.{take, drop}
 use Rattle.stackup.specs.Views.{closed_of}
 use Rattle.board.specs.Boards.{BoardState}
 use Rattle.board.specs.declared.board.Board.{Board}
@@ -7,10 +6,10 @@ use Rattle.board.specs.declared.board.Board.{Board}
 abbrev pub view_of : {G : Type 0} → Board G → BoardState G
 view_of b = record {
   stack = closed_of b.stackup;
-  points = take b.point_count b.points.now;
-  points_free = drop b.point_count b.points.now;
-  links = take b.link_count b.links.now;
-  links_free = drop b.link_count b.links.now;
+  points = b.points.used;
+  points_free = b.points.free;
+  links = b.links.used;
+  links_free = b.links.free;
   labels = b.labels.now;
   outcomes = b.outcomes.now;
   standing = b.standing;

@@ -1,5 +1,6 @@
 -- The records of a board file.
 use Rattle.std.specs.Prelude.{◌≡◌, ℕ, ◌+◌, cond, ◌&&◌, List, length, take, drop, Some, None, Ok, Err, Option, Result, ◌==◌, nat_le}
+use Rattle.std.specs.Option.{option_map}
 use Rattle.faults.specs.declared.Fault.{Fault}
 use Rattle.faults.specs.declared.Fault.TheVariants.{BadRecord}
 use Rattle.boardfile.specs.Little.{number_at}
@@ -30,6 +31,10 @@ body_at bs at = take (number_at 2 bs at) (drop (at + 4) bs)
 abbrev pub record_at : Stage → List ℕ → ℕ → Option Record
 record_at stage bs at =
     cond (nat_le (at + 4 + number_at 2 bs at) (length bs)) (body_of stage (number_at 2 bs (at + 2)) (body_at bs at)) None
+
+-- the same with the place where the next record begins
+abbrev pub entry_at : Stage → List ℕ → ℕ → Option (Record × ℕ)
+entry_at stage bs at = option_map (λ r. (r, at + 4 + number_at 2 bs at)) (record_at stage bs at)
 
 -- the answer of a read: the record with the place where the next begins, or the place of the bad one
 abbrev pub Reads : Stage → List ℕ → ℕ → Result (Record × ℕ) Fault → Type 0

@@ -5,7 +5,7 @@ ghost use Rattle.boardfile.specs.Text.{line_text};
 use std::alloc::{AllocError, Global};
 use std::fmt;
 
-#[derive(Clone, Copy)]
+#[derive(Clone, Copy, PartialEq, Eq, Debug)]
 pub enum Line {
     // the number and figure of a refusal, and the byte place of the record
     Refused {
@@ -40,19 +40,19 @@ impl fmt::Display for Line {
                 number,
                 figure,
                 place,
-            } => write!(f, "refused {number} {figure} at {place}\n"),
+            } => writeln!(f, "refused {number} {figure} at {place}"),
             Line::Summary {
                 width,
                 reached,
                 taken,
-            } => write!(f, "width {width} reached {reached} taken {taken}\n"),
+            } => writeln!(f, "width {width} reached {reached} taken {taken}"),
             Line::Route {
                 point,
                 delay,
                 price,
                 count,
-            } => write!(f, "{point} {delay} {price} {count}\n"),
-            Line::Unreached { point } => write!(f, "{point} none\n"),
+            } => writeln!(f, "{point} {delay} {price} {count}"),
+            Line::Unreached { point } => writeln!(f, "{point} none"),
         }
     }
 }

@@ -1,14 +1,14 @@
 // What a board file is made of.
 
 // Before or after the record that closes the stackup.
-#[derive(Clone, Copy)]
+#[derive(Clone, Copy, PartialEq, Eq, Debug)]
 pub enum Stage {
     Stackup,
     Routing,
 }
 
 // One record with the numbers of its body, whose ranges are for the call that it stands for to check.
-#[derive(Clone, Copy, PartialEq, Debug)]
+#[derive(Clone, Copy, PartialEq, Eq, Debug)]
 pub enum Record {
     Layer {
         kind: u8,

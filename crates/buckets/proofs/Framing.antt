@@ -11,11 +11,11 @@ use Rattle.labels.specs.Steps.{Settled, regiven}
 use Rattle.buckets.specs.Buckets.{Swept}
 use Rattle.buckets.specs.Results.{Frame}
 
-module _ {G : Type 0} (initial : G) (n buckets : ℕ) where
-  pub frame_same : (os : List Outcome) (labels : List (Label G)) → Frame initial n buckets os labels os labels
+module _ {G : Type 0} (initial : G) (p : Plan) where
+  pub frame_same : (os : List Outcome) (labels : List (Label G)) → Frame initial p os labels os labels
   frame_same os labels = record { labels_beyond = λ q l. refl; reached_same = λ v. refl; delay_same = λ v. refl; outcomes_beyond = λ v l. refl }
 
-  pub frame_then : (os os' os'' : List Outcome) (labels labels' labels'' : List (Label G)) → Frame initial n buckets os labels os' labels' → Frame initial n buckets os' labels' os'' labels'' → Frame initial n buckets os labels os'' labels''
+  pub frame_then : (os os' os'' : List Outcome) (labels labels' labels'' : List (Label G)) → Frame initial p os labels os' labels' → Frame initial p os' labels' os'' labels'' → Frame initial p os labels os'' labels''
   frame_then os os' os'' labels labels' labels'' f g = record {
     labels_beyond = λ q l. g.labels_beyond q l ∙ f.labels_beyond q l;
     reached_same = λ v. g.reached_same v ∙ f.reached_same v;
@@ -23,7 +23,7 @@ module _ {G : Type 0} (initial : G) (n buckets : ℕ) where
     outcomes_beyond = λ v l. g.outcomes_beyond v l ∙ f.outcomes_beyond v l;
   }
 
-  pub frame_put : (os : List Outcome) (labels : List (Label G)) (q : ℕ) (new : Label G) → q < n * buckets → Frame initial n buckets os labels os (set labels q new)
+  pub frame_put : (os : List Outcome) (labels : List (Label G)) (q : ℕ) (new : Label G) → q < p.points * p.buckets → Frame initial p os labels os (set labels q new)
   frame_put os labels q new lt = record {
     labels_beyond = λ z l. get_or-set_other labels q z new (empty_label initial) (λ e. omega (arith, e, lt, l));
     reached_same = λ v. refl;
@@ -31,17 +31,17 @@ module _ {G : Type 0} (initial : G) (n buckets : ℕ) where
     outcomes_beyond = λ v l. refl;
   }
 
-  pub frame_settled : (good : G → G → Bool) (i v : ℕ) → i < buckets → v < n → (os os' : List Outcome) (labels labels' : List (Label G)) (kept : Bool) → v < length os
-      → Settled good initial buckets i v os labels kept os' labels' → Frame initial n buckets os labels os' labels'
+  pub frame_settled : (good : G → G → Bool) (i v : ℕ) → i < p.buckets → v < p.points → (os os' : List Outcome) (labels labels' : List (Label G)) (kept : Bool) → v < length os
+      → Settled good initial p.buckets i v os labels kept os' labels' → Frame initial p os labels os' labels'
   frame_settled good i v hi hv os os' labels labels' kept lo s =
       rw s.1 (record {
-        labels_beyond = (frame_put os labels (v * buckets + i) _ (place_below v n i buckets hv hi)).labels_beyond;
+        labels_beyond = (frame_put os labels (v * p.buckets + i) _ (place_below v p.points i p.buckets hv hi)).labels_beyond;
         reached_same = λ u. ap (λ x. reached_at x u) s.2 ∙ go (λ (o : Outcome). o.reached) refl u kept;
         delay_same = λ u. ap (λ x. delay_at x u) s.2 ∙ go (λ (o : Outcome). o.delay) refl u kept;
         outcomes_beyond = λ u l. ap (λ x. outcome_at x u) s.2 ∙ beyond u l kept;
       })
     where
-      beyond : (u : ℕ) → n ≤ u → (k : Bool) → outcome_at (cond k (set os v (regiven i (outcome_at os v))) os) u ≡ outcome_at os u
+      beyond : (u : ℕ) → p.points ≤ u → (k : Bool) → outcome_at (cond k (set os v (regiven i (outcome_at os v))) os) u ≡ outcome_at os u
       beyond u l true = get_or-set_other os v u (regiven i (outcome_at os v)) unreached_outcome (λ e. omega (arith, e, l, hv))
       beyond u l false = refl
 
@@ -52,7 +52,7 @@ module _ {G : Type 0} (initial : G) (n buckets : ℕ) where
         | inr q ↦ ap f (get_or-set_other os v u (regiven i (outcome_at os v)) unreached_outcome q)
       ]
 
-pub frame_swept : {G : Type 0} (initial : G) (p : Plan) (i : ℕ) → i < p.buckets → (os : List Outcome) (labels labels' : List (Label G)) → Swept initial p i p.points labels labels' → Frame initial p.points p.buckets os labels os labels'
+pub frame_swept : {G : Type 0} (initial : G) (p : Plan) (i : ℕ) → i < p.buckets → (os : List Outcome) (labels labels' : List (Label G)) → Swept initial p i p.points labels labels' → Frame initial p os labels os labels'
 frame_swept initial p i hi os labels labels' s = record {
   labels_beyond = λ q l. s.others q (λ v hv e. omega (arith, e, l, place_below v p.points i p.buckets hv hi));
   reached_same = λ v. refl;

@@ -1,5 +1,5 @@
 -- What a sweep leaves.
-use Rattle.std.proofs.Common.{◌≡◌, ℕ, ◌+◌, ◌*◌, ◌<◌, List, length, sym, refl, ap, ◌∙◌, inl, inr, arith}
+use Rattle.std.proofs.Common.{◌≡◌, ℕ, ◌+◌, ◌*◌, ◌<◌, List, length, sym, ap, ◌∙◌, inl, inr, arith}
 use Rattle.std.proofs.lemmas.List.{get_or-set_same, get_or-set_other}
 use Rattle.std.proofs.lemmas.Bool.{cases_eq}
 use Rattle.tables.specs.declared.plan.Plan.{Plan}
@@ -10,9 +10,6 @@ use Rattle.tables.specs.Tables.{label_at, empty_label}
 use Rattle.tables.proofs.Cuts.{place_point}
 use Rattle.labels.specs.Steps.{SweptIf}
 use Rattle.buckets.specs.Buckets.{label_in, Swept, swept_label}
-
-pub swept_none : {G : Type 0} (initial : G) (p : Plan) (b : ℕ) (labels : List (Label G)) → Swept initial p b 0 labels labels
-swept_none initial p b labels = record { swept = λ v l. absurd (omega arith); others = λ q no_one. refl }
 
 module _ {G : Type 0} (initial : G) (p : Plan) (b m : ℕ) (hb : b < p.buckets) (before labels labels' : List (Label G)) (within : m * p.buckets + b < length labels)
     (s : Swept initial p b m before labels) where

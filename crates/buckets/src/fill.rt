@@ -4,50 +4,47 @@ ghost use Rattle.buckets.specs.Buckets.{label_in, closed_in, SameOpen, Loaded, F
 ghost use Rattle.buckets.specs.Results.{Frame, KeptOrBlank, Chained, GivenKept};
 ghost use Rattle.labels.specs.Steps.{OfferedIf, marked};
 ghost use Rattle.queues.specs.Slots.{NoneWaits};
-ghost use Rattle.tables.specs.Tables.{label_at, outcome_at, empty_label, Joined};
+ghost use Rattle.tables.specs.Tables.{label_at, outcome_at, empty_label};
 ghost use Rattle.tables.specs.Tallies.{tally};
 ghost use Rattle.tables.specs.declared.table.Mark.TheVariants.{Kept, Waiting};
 
+use crate::bucket::Bucket;
 use grades::Grade;
 use labels::step::{label_at, offer_waiting, settle, sweep_label, try_link};
 use queues::queue::Queue;
+use tables::place::Place;
 use tables::plan::Plan;
-use tables::table::{Label, Link, Mark, Outcome};
+use tables::table::{Label, Mark, Outcome};
+use tables::task::Task;
 use tables::wipe::empty_label;
 
 // Extends the kept label of `point` by each of its open links, in number order.
 fn expand<G: Grade, Q: Queue<G>>(
-    plan: Plan,
-    links: &[Link],
+    bucket: Bucket,
     labels: &mut [Label<G>],
     outcomes: &[Outcome],
     queue: &mut Q,
-    bucket: u32,
     point: usize,
 )
-    requires joined { Joined plan.points links.now }
-    requires few_links { length links.now ≤ 16384 }
-    requires outcomes_room { plan.points ≤ length outcomes.now }
-    requires labels_room { plan.points * plan.buckets ≤ length labels.old }
-    requires bucket_within { bucket < plan.buckets }
-    requires point_within { point < plan.points }
-    requires kept { (label_in G.Grade.initial plan labels.old point bucket).mark ≡ Kept }
-    requires filling { Filling G.Grade.initial plan links.now bucket outcomes.now labels.old (Q.Queue.model queue.old).slots }
-    ensures filling { Filling G.Grade.initial plan links.now bucket outcomes.now labels.new (Q.Queue.model queue.new).slots }
-    ensures same { SameOpen G.Grade.initial plan bucket labels.old labels.new }
+    requires outcomes_room { bucket.task.plan.points ≤ length outcomes.now }
+    requires labels_room { bucket.task.plan.points * bucket.task.plan.buckets ≤ length labels.old }
+    requires point_within { point < bucket.task.plan.points }
+    requires kept { (label_in G.Grade.initial bucket.task.plan labels.old point bucket.number).mark ≡ Kept }
+    requires filling { Filling G.Grade.initial bucket.task bucket.number outcomes.now labels.old (Q.Queue.model queue.old).slots }
+    ensures filling { Filling G.Grade.initial bucket.entry.task bucket.entry.number outcomes.now labels.new (Q.Queue.model queue.new).slots }
+    ensures same { SameOpen G.Grade.initial bucket.entry.task.plan bucket.entry.number labels.old labels.new }
     ensures slots { length (Q.Queue.model queue.new).slots ≡ length (Q.Queue.model queue.old).slots }
-    ensures frame { Frame G.Grade.initial plan.points plan.buckets outcomes.now labels.old outcomes.now labels.new }
-    ensures ready { Q.Queue.ready queue.old → Q.Queue.ready queue.new }
+    ensures frame { Frame G.Grade.initial bucket.entry.task.plan outcomes.now labels.old outcomes.now labels.new }
 {
-    let label = label_at(plan, labels, point, bucket);
-    for (number, link) in links.iter().enumerate() {
+    let label = label_at(labels, bucket.place(point));
+    for (number, link) in bucket.task.links.iter().enumerate() {
         if let Some(to) = link.open_end(point) {
             try_link(
-                plan,
+                bucket.task.plan,
                 labels,
                 outcomes,
                 queue,
-                bucket,
+                bucket.number,
                 label,
                 number as u16,
                 *link,
@@ -59,124 +56,100 @@ fn expand<G: Grade, Q: Queue<G>>(
 
 // Offers the point if its label in this bucket waits.
 fn offer_point<G: Grade, Q: Queue<G>>(
-    plan: Plan,
+    bucket: Bucket,
     labels: &[Label<G>],
     queue: &mut Q,
     point: usize,
-    bucket: u32,
 )
-    requires labels_room { plan.points * plan.buckets ≤ length labels.now }
-    requires point_within { point < plan.points }
-    requires bucket_within { bucket < plan.buckets }
-    ensures offered { OfferedIf G.Order.as_good (Q.Queue.model queue.old).slots point (label_in G.Grade.initial plan labels.now point bucket) (label_in G.Grade.initial plan labels.now point bucket).mark (Q.Queue.model queue.new).slots }
-    ensures ready { Q.Queue.ready queue.old → Q.Queue.ready queue.new }
+    requires labels_room { bucket.task.plan.points * bucket.task.plan.buckets ≤ length labels.now }
+    requires point_within { point < bucket.task.plan.points }
+    ensures { OfferedIf G.Order.as_good (Q.Queue.model queue.old).slots point (label_in G.Grade.initial bucket.entry.task.plan labels.now point bucket.entry.number) (label_in G.Grade.initial bucket.entry.task.plan labels.now point bucket.entry.number).mark (Q.Queue.model queue.new).slots }
 {
-    let label = label_at(plan, labels, point, bucket);
+    let label = label_at(labels, bucket.place(point));
     offer_waiting(queue, point, label);
 }
 
 // Offers each point that has a candidate in this bucket.
-fn load_bucket<G: Grade, Q: Queue<G>>(plan: Plan, labels: &[Label<G>], queue: &mut Q, bucket: u32)
-    requires labels_room { plan.points * plan.buckets ≤ length labels.now }
-    requires bucket_within { bucket < plan.buckets }
+fn load_bucket<G: Grade, Q: Queue<G>>(bucket: Bucket, labels: &[Label<G>], queue: &mut Q)
+    requires labels_room { bucket.task.plan.points * bucket.task.plan.buckets ≤ length labels.now }
     requires none_waits { NoneWaits (Q.Queue.model queue.old).slots }
-    requires slots_room { plan.points ≤ length (Q.Queue.model queue.old).slots }
-    ensures loaded { Loaded G.Grade.initial plan bucket plan.points labels.now (Q.Queue.model queue.new).slots }
+    requires slots_room { bucket.task.plan.points ≤ length (Q.Queue.model queue.old).slots }
+    ensures loaded { Loaded G.Grade.initial bucket.entry.task.plan bucket.entry.number bucket.entry.task.plan.points labels.now (Q.Queue.model queue.new).slots }
     ensures slots { length (Q.Queue.model queue.new).slots ≡ length (Q.Queue.model queue.old).slots }
-    ensures ready { Q.Queue.ready queue.old → Q.Queue.ready queue.new }
 {
-    for point in 0..plan.points {
-        offer_point(plan, labels, queue, point, bucket);
+    for point in 0..bucket.task.plan.points {
+        offer_point(bucket, labels, queue, point);
     }
 }
 
 // Settles the label of the point just taken, and extends it if it is kept.
 fn settle_and_expand<G: Grade, Q: Queue<G>>(
-    plan: Plan,
-    links: &[Link],
+    bucket: Bucket,
     labels: &mut [Label<G>],
     outcomes: &mut [Outcome],
     queue: &mut Q,
-    bucket: u32,
     point: usize,
 )
-    requires joined { Joined plan.points links.now }
-    requires few_links { length links.now ≤ 16384 }
-    requires outcomes_room { plan.points ≤ length outcomes.old }
-    requires labels_room { plan.points * plan.buckets ≤ length labels.old }
-    requires bucket_within { bucket < plan.buckets }
-    requires taking { Taking G.Grade.initial plan links.now bucket point outcomes.old labels.old (Q.Queue.model queue.old).slots }
-    ensures filling { Filling G.Grade.initial plan links.now bucket outcomes.new labels.new (Q.Queue.model queue.new).slots }
-    ensures tally { tally (closed_in G.Grade.initial plan bucket labels.new) plan.points ≡ tally (closed_in G.Grade.initial plan bucket labels.old) plan.points + 1 }
+    requires outcomes_room { bucket.task.plan.points ≤ length outcomes.old }
+    requires labels_room { bucket.task.plan.points * bucket.task.plan.buckets ≤ length labels.old }
+    requires taking { Taking G.Grade.initial bucket.task bucket.number point outcomes.old labels.old (Q.Queue.model queue.old).slots }
+    ensures filling { Filling G.Grade.initial bucket.entry.task bucket.entry.number outcomes.new labels.new (Q.Queue.model queue.new).slots }
+    ensures tally { tally (closed_in G.Grade.initial bucket.entry.task.plan bucket.entry.number labels.new) bucket.entry.task.plan.points ≡ tally (closed_in G.Grade.initial bucket.entry.task.plan bucket.entry.number labels.old) bucket.entry.task.plan.points + 1 }
     ensures slots { length (Q.Queue.model queue.new).slots ≡ length (Q.Queue.model queue.old).slots }
-    ensures frame { Frame G.Grade.initial plan.points plan.buckets outcomes.old labels.old outcomes.new labels.new }
-    ensures ready { Q.Queue.ready queue.old → Q.Queue.ready queue.new }
+    ensures frame { Frame G.Grade.initial bucket.entry.task.plan outcomes.old labels.old outcomes.new labels.new }
 {
-    if settle(plan, labels, outcomes, bucket, point) {
-        expand(plan, links, labels, outcomes, queue, bucket, point);
+    if settle(bucket.place(point), labels, outcomes) {
+        expand(bucket, labels, outcomes, queue, point);
     }
 }
 
 // Takes and settles until no point waits.
 fn drain_bucket<G: Grade, Q: Queue<G>>(
-    plan: Plan,
-    links: &[Link],
+    bucket: Bucket,
     labels: &mut [Label<G>],
     outcomes: &mut [Outcome],
     queue: &mut Q,
-    bucket: u32,
 )
-    requires joined { Joined plan.points links.now }
-    requires few_links { length links.now ≤ 16384 }
-    requires outcomes_room { plan.points ≤ length outcomes.old }
-    requires labels_room { plan.points * plan.buckets ≤ length labels.old }
-    requires bucket_within { bucket < plan.buckets }
-    requires filling { Filling G.Grade.initial plan links.now bucket outcomes.old labels.old (Q.Queue.model queue.old).slots }
-    ensures filling { Filling G.Grade.initial plan links.now bucket outcomes.new labels.new (Q.Queue.model queue.new).slots }
+    requires outcomes_room { bucket.task.plan.points ≤ length outcomes.old }
+    requires labels_room { bucket.task.plan.points * bucket.task.plan.buckets ≤ length labels.old }
+    requires filling { Filling G.Grade.initial bucket.task bucket.number outcomes.old labels.old (Q.Queue.model queue.old).slots }
+    ensures filling { Filling G.Grade.initial bucket.entry.task bucket.entry.number outcomes.new labels.new (Q.Queue.model queue.new).slots }
     ensures idle { NoneWaits (Q.Queue.model queue.new).slots }
     ensures slots { length (Q.Queue.model queue.new).slots ≡ length (Q.Queue.model queue.old).slots }
-    ensures frame { Frame G.Grade.initial plan.points plan.buckets outcomes.old labels.old outcomes.new labels.new }
-    ensures ready { Q.Queue.ready queue.old → Q.Queue.ready queue.new }
+    ensures frame { Frame G.Grade.initial bucket.entry.task.plan outcomes.old labels.old outcomes.new labels.new }
 {
     while let Some(point) = queue.take() {
-        settle_and_expand(plan, links, labels, outcomes, queue, bucket, point);
+        settle_and_expand(bucket, labels, outcomes, queue, point);
     }
 }
 
 // Removes the labels that were dropped in this bucket.
-fn sweep_bucket<G: Grade>(plan: Plan, labels: &mut [Label<G>], bucket: u32)
-    requires labels_room { plan.points * plan.buckets ≤ length labels.old }
-    requires bucket_within { bucket < plan.buckets }
-    ensures { Swept G.Grade.initial plan bucket plan.points labels.old labels.new }
+fn sweep_bucket<G: Grade>(bucket: Bucket, labels: &mut [Label<G>])
+    requires { bucket.task.plan.points * bucket.task.plan.buckets ≤ length labels.old }
+    ensures { Swept G.Grade.initial bucket.entry.task.plan bucket.entry.number bucket.entry.task.plan.points labels.old labels.new }
 {
-    for point in 0..plan.points {
-        sweep_label(plan, labels, point, bucket);
+    for point in 0..bucket.task.plan.points {
+        sweep_label(labels, bucket.place(point));
     }
 }
 
 // Settles every place of one bucket.
 fn fill_bucket<G: Grade, Q: Queue<G>>(
-    plan: Plan,
-    links: &[Link],
+    bucket: Bucket,
     labels: &mut [Label<G>],
     outcomes: &mut [Outcome],
     queue: &mut Q,
-    bucket: u32,
 )
-    requires joined { Joined plan.points links.now }
-    requires few_links { length links.now ≤ 16384 }
-    requires outcomes_room { plan.points ≤ length outcomes.old }
-    requires labels_room { plan.points * plan.buckets ≤ length labels.old }
-    requires bucket_within { bucket < plan.buckets }
-    requires ready { Ready G.Grade.initial plan links.now bucket outcomes.old labels.old (Q.Queue.model queue.old).slots }
-    ensures done { Ready G.Grade.initial plan links.now (bucket + 1) outcomes.new labels.new (Q.Queue.model queue.new).slots }
+    requires outcomes_room { bucket.task.plan.points ≤ length outcomes.old }
+    requires labels_room { bucket.task.plan.points * bucket.task.plan.buckets ≤ length labels.old }
+    requires ready { Ready G.Grade.initial bucket.task bucket.number outcomes.old labels.old (Q.Queue.model queue.old).slots }
+    ensures done { Ready G.Grade.initial bucket.entry.task (bucket.entry.number + 1) outcomes.new labels.new (Q.Queue.model queue.new).slots }
     ensures slots { length (Q.Queue.model queue.new).slots ≡ length (Q.Queue.model queue.old).slots }
-    ensures frame { Frame G.Grade.initial plan.points plan.buckets outcomes.old labels.old outcomes.new labels.new }
-    ensures ready { Q.Queue.ready queue.old → Q.Queue.ready queue.new }
+    ensures frame { Frame G.Grade.initial bucket.entry.task.plan outcomes.old labels.old outcomes.new labels.new }
 {
-    load_bucket(plan, labels, queue, bucket);
-    drain_bucket(plan, links, labels, outcomes, queue, bucket);
-    sweep_bucket(plan, labels, bucket);
+    load_bucket(bucket, labels, queue);
+    drain_bucket(bucket, labels, outcomes, queue);
+    sweep_bucket(bucket, labels);
 }
 
 // Gives the source the label of the empty route.
@@ -184,7 +157,12 @@ fn put_source<G: Grade>(plan: Plan, labels: &mut [Label<G>])
     requires { plan.points * plan.buckets ≤ length labels.old }
     ensures { labels.new ≡ slice_set labels.old (plan.source * plan.buckets + 0) (marked Waiting (empty_label G.Grade.initial)) }
 {
-    labels[plan.place(plan.source, 0)] = Label {
+    let first = Place {
+        plan,
+        point: plan.source,
+        bucket: 0,
+    };
+    labels[first.index()] = Label {
         mark: Mark::Waiting,
         ..empty_label()
     };
@@ -192,32 +170,28 @@ fn put_source<G: Grade>(plan: Plan, labels: &mut [Label<G>])
 
 // Gives the source the label of the empty route, and fills the buckets in turn.
 pub fn fill_buckets<G: Grade, Q: Queue<G>>(
-    plan: Plan,
-    links: &[Link],
+    task: Task,
     labels: &mut [Label<G>],
     outcomes: &mut [Outcome],
     queue: &mut Q,
 )
-    requires joined { Joined plan.points links.now }
-    requires few_links { length links.now ≤ 16384 }
-    requires outcomes_room { plan.points ≤ length outcomes.old }
-    requires labels_room { plan.points * plan.buckets ≤ length labels.old }
-    requires slots_room { plan.points ≤ length (Q.Queue.model queue.old).slots }
+    requires few_links { length task.links.now ≤ 16384 }
+    requires outcomes_room { task.plan.points ≤ length outcomes.old }
+    requires labels_room { task.plan.points * task.plan.buckets ≤ length labels.old }
+    requires slots_room { task.plan.points ≤ length (Q.Queue.model queue.old).slots }
     requires none_waits { NoneWaits (Q.Queue.model queue.old).slots }
-    requires blank { (q : ℕ) → q < plan.points * plan.buckets → label_at G.Grade.initial labels.old q ≡ empty_label G.Grade.initial }
-    requires none_given { (v : ℕ) → v < plan.points → (outcome_at outcomes.old v).given ≡ 0 }
-    requires ready { Q.Queue.ready queue.old }
+    requires blank { (q : ℕ) → q < task.plan.points * task.plan.buckets → label_at G.Grade.initial labels.old q ≡ empty_label G.Grade.initial }
+    requires none_given { (v : ℕ) → v < task.plan.points → (outcome_at outcomes.old v).given ≡ 0 }
     ensures idle { NoneWaits (Q.Queue.model queue.new).slots }
     ensures slots { length (Q.Queue.model queue.new).slots ≡ length (Q.Queue.model queue.old).slots }
-    ensures ready { Q.Queue.ready queue.new }
-    ensures given { (v : ℕ) → v < plan.points → (outcome_at outcomes.new v).given < plan.buckets }
-    ensures frame { Frame G.Grade.initial plan.points plan.buckets outcomes.old labels.old outcomes.new labels.new }
-    ensures settled { KeptOrBlank G.Grade.initial plan.points plan.buckets labels.new }
-    ensures chained { Chained G.Grade.initial links.now plan.points plan.buckets labels.new }
-    ensures given_kept { GivenKept G.Grade.initial plan.points plan.buckets outcomes.new labels.new }
+    ensures given { (v : ℕ) → v < task.entry.plan.points → (outcome_at outcomes.new v).given < task.entry.plan.buckets }
+    ensures frame { Frame G.Grade.initial task.entry.plan outcomes.old labels.old outcomes.new labels.new }
+    ensures settled { KeptOrBlank G.Grade.initial task.entry.plan.points task.entry.plan.buckets labels.new }
+    ensures chained { Chained G.Grade.initial task.entry.links.now task.entry.plan.points task.entry.plan.buckets labels.new }
+    ensures given_kept { GivenKept G.Grade.initial task.entry.plan.points task.entry.plan.buckets outcomes.new labels.new }
 {
-    put_source(plan, labels);
-    for bucket in 0..plan.buckets {
-        fill_bucket(plan, links, labels, outcomes, queue, bucket);
+    put_source(task.plan, labels);
+    for number in 0..task.plan.buckets {
+        fill_bucket(Bucket { task, number }, labels, outcomes, queue);
     }
 }

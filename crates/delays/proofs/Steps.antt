@@ -4,19 +4,17 @@ use Rattle.std.proofs.lemmas.List.{get_or-set_same, get_or-set_other, length-set
 use Rattle.std.proofs.lemmas.Bool.{both_ways, cases_eq, cases_Bool, ltb-true, ltb-false}
 use Rattle.std.proofs.lemmas.Bool.Decides.{nat_tests}
 use Rattle.grades.specs.declared.key.Key.{Key}
-use Rattle.grades.specs.Keys.{before}
-use Rattle.queues.specs.declared.slot.Slot.{Slot}
-use Rattle.queues.specs.declared.slot.Slot.TheVariants.{Idle, Waiting}
+use Rattle.grades.specs.Keys.{before, start_key}
 use Rattle.queues.specs.Slots.{at, waits, yields, ahead, First, NoneWaits, SlotTake}
 use Rattle.tables.specs.declared.table.Link.{Link}
 use Rattle.tables.specs.declared.table.Outcome.{Outcome}
 use Rattle.tables.specs.Tables.{outcome_at, reached_at, delay_at, unreached_outcome, link_at, open_end, Joined}
-use Rattle.delays.specs.Delays.{SameReached, Fresh, Front, PassedOver, DelayOffered, LinkTried, tentative, delay_key, Known, Least, Beyond, Walk, Walk.here, Walk.along}
+use Rattle.delays.specs.Delays.{SameReached, Fresh, Front, PassedOver, DelayOffered, LinkTried, tentative, Known, Least, Beyond, Walk, Walk.here, Walk.along}
 use Rattle.tables.proofs.Joins.{joined_end}
 
 -- of two keys at one grade, the smaller delay comes first
 before_delay : {G : Type 0} (good : G → G → Bool) (initial : G) → good initial initial ≡ true → (t d : ℕ)
-    → before good (delay_key initial t) (delay_key initial d) ≡ ltb t d
+    → before good (start_key initial t) (start_key initial d) ≡ ltb t d
 before_delay good initial same t d = grind (arith, nat_tests)
 
 or_left : (a b : Bool) → (a || b) ≡ false → a ≡ false
@@ -24,17 +22,17 @@ or_left true b e = e
 or_left false b e = refl
 
 -- an idle slot takes up every offer
-pub idle_yields : {G : Type 0} (good : G → G → Bool) (o : Slot G) (k : Key G) → waits o ≡ false → yields good o k ≡ true
-idle_yields good Idle k e = refl
-idle_yields good (Waiting l) k e = absurd (both_ways true e refl)
+pub idle_yields : {G : Type 0} (good : G → G → Bool) (o : Option (Key G)) (k : Key G) → waits o ≡ false → yields good o k ≡ true
+idle_yields good None k e = refl
+idle_yields good (Some l) k e = absurd (both_ways true e refl)
 
-some_waits : {G : Type 0} (o : Slot G) → waits o ≡ true → (w : Key G) × (o ≡ Waiting w)
-some_waits Idle e = absurd (both_ways _ refl e)
-some_waits (Waiting w) e = (w, refl)
+some_waits : {G : Type 0} (o : Option (Key G)) → waits o ≡ true → (w : Key G) × (o ≡ Some w)
+some_waits None e = absurd (both_ways _ refl e)
+some_waits (Some w) e = (w, refl)
 
 -- An offer that is taken up: total, over link i from u to the point to.
 module _ {G : Type 0} (good : G → G → Bool) (initial : G) (same : good initial initial ≡ true) (links : List Link) (n source bound u i to : ℕ)
-    (os : List Outcome) (slots : List (Slot G))
+    (os : List Outcome) (slots : List (Option (Key G)))
     (room : n ≤ length os) (seats : n ≤ length slots) (lu : u < n) (lt : to < n) (li : i < length links)
     (ru : reached_at os u ≡ true) (goes : open_end (link_at links i) u ≡ Some to)
     (f : Front initial links n source bound u i os slots) where
@@ -42,12 +40,12 @@ module _ {G : Type 0} (good : G → G → Bool) (initial : G) (same : good initi
   total = delay_at os u + (link_at links i).delay
 
   -- a point that waits has the delay that the offer is compared with
-  yields_known : waits (at slots to) ≡ true → (b : Bool) → yields good (at slots to) (delay_key initial total) ≡ b → ltb total (delay_at os to) ≡ b
+  yields_known : waits (at slots to) ≡ true → (b : Bool) → yields good (at slots to) (start_key initial total) ≡ b → ltb total (delay_at os to) ≡ b
   yields_known w b e =
       let k = some_waits (at slots to) w in
       sym (before_delay good initial same total (delay_at os to))
-      ∙ ap (before good (delay_key initial total)) (sym (f.keyed to k.0 k.1))
-      ∙ sym (ap (λ o. yields good o (delay_key initial total)) k.1) ∙ e
+      ∙ ap (before good (start_key initial total)) (sym (f.keyed to k.0 k.1))
+      ∙ sym (ap (λ o. yields good o (start_key initial total)) k.1) ∙ e
 
   -- one link more of u is settled, and nothing changes
   front_skip : PassedOver good initial bound to total os slots
@@ -70,7 +68,7 @@ module _ {G : Type 0} (good : G → G → Bool) (initial : G) (same : good initi
       met (inl over) b wb le = absurd (omega arith)
       met (inr (inl r)) b wb le = (inl r, omega (arith, f.top to lt r))
       met (inr (inr no')) true wb le = (inr wb, ltb-false total (delay_at os to) (yields_known wb false no'))
-      met (inr (inr no')) false wb le = absurd (both_ways _ no' (idle_yields good (at slots to) (delay_key initial total) wb))
+      met (inr (inr no')) false wb le = absurd (both_ways _ no' (idle_yields good (at slots to) (start_key initial total) wb))
 
       tried : (v k w : ℕ) → v < n → reached_at os v ≡ true → (v ≡ u → k < i + 1) → k < length links → open_end (link_at links k) v ≡ Some w
           → delay_at os v + (link_at links k).delay ≤ bound → (v ≡ u) ⊎ (v ≡ u → ⊥) → (k ≡ i) ⊎ (k ≡ i → ⊥)
@@ -84,12 +82,12 @@ module _ {G : Type 0} (good : G → G → Bool) (initial : G) (same : good initi
           let m = met why (waits (at slots to)) refl le' in
           rw (ev, ek, ← ew) m
 
-  module _ (within : total ≤ bound) (fresh : reached_at os to ≡ false) (better : yields good (at slots to) (delay_key initial total) ≡ true) where
+  module _ (within : total ≤ bound) (fresh : reached_at os to ≡ false) (better : yields good (at slots to) (start_key initial total) ≡ true) where
     abbrev os' : List Outcome
     os' = set os to (tentative total)
 
-    abbrev slots' : List (Slot G)
-    slots' = set slots to (Waiting (delay_key initial total))
+    abbrev slots' : List (Option (Key G))
+    slots' = set slots to (Some (start_key initial total))
 
     o_here : outcome_at os' to ≡ tentative total
     o_here = get_or-set_same os to (tentative total) unreached_outcome (omega arith)
@@ -97,11 +95,11 @@ module _ {G : Type 0} (good : G → G → Bool) (initial : G) (same : good initi
     o_there : (v : ℕ) → (v ≡ to → ⊥) → outcome_at os' v ≡ outcome_at os v
     o_there v ne = get_or-set_other os to v (tentative total) unreached_outcome ne
 
-    s_here : at slots' to ≡ Waiting (delay_key initial total)
-    s_here = get_or-set_same slots to (Waiting (delay_key initial total)) Idle (omega arith)
+    s_here : at slots' to ≡ Some (start_key initial total)
+    s_here = get_or-set_same slots to (Some (start_key initial total)) None (omega arith)
 
     s_there : (v : ℕ) → (v ≡ to → ⊥) → at slots' v ≡ at slots v
-    s_there v ne = get_or-set_other slots to v (Waiting (delay_key initial total)) Idle ne
+    s_there v ne = get_or-set_other slots to v (Some (start_key initial total)) None ne
 
     d_there : (v : ℕ) → (v ≡ to → ⊥) → delay_at os' v ≡ delay_at os v
     d_there v ne = ap (λ (o : Outcome). o.delay) (o_there v ne)
@@ -142,9 +140,9 @@ module _ {G : Type 0} (good : G → G → Bool) (initial : G) (same : good initi
         let p = f.pending s w' in
         (p.0, ap (λ (o : Outcome). o.reached) (o_there s ne) ∙ p.1, (let z = d_there s ne in let y = f.floor s w' in omega arith))
 
-    key_case : (s : ℕ) (w : Key G) → (s ≡ to) ⊎ (s ≡ to → ⊥) → at slots' s ≡ Waiting w → w ≡ delay_key initial (delay_at os' s)
-    key_case s w (inl e) g = let g' : at slots' to ≡ Waiting w = rw e at g in let h : w ≡ delay_key initial total = (let s' = s_here in cc) in h ∙ ap (delay_key initial) (sym (rw e d_here))
-    key_case s w (inr ne) g = f.keyed s w (sym (s_there s ne) ∙ g) ∙ ap (delay_key initial) (sym (d_there s ne))
+    key_case : (s : ℕ) (w : Key G) → (s ≡ to) ⊎ (s ≡ to → ⊥) → at slots' s ≡ Some w → w ≡ start_key initial (delay_at os' s)
+    key_case s w (inl e) g = let g' : at slots' to ≡ Some w = rw e at g in let h : w ≡ start_key initial total = (let s' = s_here in cc) in h ∙ ap (start_key initial) (sym (rw e d_here))
+    key_case s w (inr ne) g = f.keyed s w (sym (s_there s ne) ∙ g) ∙ ap (start_key initial) (sym (d_there s ne))
 
     walk_case : (v : ℕ) → v < n → (v ≡ to) ⊎ (v ≡ to → ⊥) → Known os' slots' v → Walk links source v (delay_at os' v) × (delay_at os' v ≤ bound)
     walk_case v lv (inl e) k =
@@ -208,13 +206,13 @@ module _ {G : Type 0} (good : G → G → Bool) (initial : G) (same : good initi
     }
 
   -- one link more of u is tried
-  front_more : (os₁ : List Outcome) (slots₁ : List (Slot G)) → DelayOffered good initial bound to total os slots os₁ slots₁
+  front_more : (os₁ : List Outcome) (slots₁ : List (Option (Key G))) → DelayOffered good initial bound to total os slots os₁ slots₁
       → Front initial links n source bound u (i + 1) os₁ slots₁
   front_more os₁ slots₁ (inl (why, eo, es)) = rw (eo, es) (front_skip why)
   front_more os₁ slots₁ (inr (within, fresh, better, eo, es)) = rw (eo, es) (front_offer within fresh better)
 
 -- a link that is no open link of u
-module _ {G : Type 0} (initial : G) (links : List Link) (n source bound u i : ℕ) (os : List Outcome) (slots : List (Slot G)) where
+module _ {G : Type 0} (initial : G) (links : List Link) (n source bound u i : ℕ) (os : List Outcome) (slots : List (Option (Key G))) where
   front_none : open_end (link_at links i) u ≡ None → Front initial links n source bound u i os slots → Front initial links n source bound u (i + 1) os slots
   front_none none f =
       record {
@@ -244,7 +242,7 @@ marked o = record { delay = o.delay; given = o.given; reached = true }
 
 -- The point v is taken, and reached at its delay.
 module _ {G : Type 0} (good : G → G → Bool) (initial : G) (same : good initial initial ≡ true) (links : List Link) (n source bound u v : ℕ)
-    (os : List Outcome) (slots slots' : List (Slot G))
+    (os : List Outcome) (slots slots' : List (Option (Key G)))
     (room : n ≤ length os)
     (f : Front initial links n source bound u (length links) os slots) (t : SlotTake slots slots' (Some v)) (c : First good slots v) where
   abbrev os₂ : List Outcome
@@ -263,10 +261,10 @@ module _ {G : Type 0} (good : G → G → Bool) (initial : G) (same : good initi
   q_there x ne = get_or-set_other os v x (marked (outcome_at os v)) unreached_outcome ne
 
   slot_there : (x : ℕ) → (x ≡ v → ⊥) → at slots' x ≡ at slots x
-  slot_there x ne = ap (λ (l : List (Slot G)). at l x) t.2 ∙ get_or-set_other slots v x Idle Idle ne
+  slot_there x ne = ap (λ (l : List (Option (Key G))). at l x) t.2 ∙ get_or-set_other slots v x None None ne
 
-  slot_here : at slots' v ≡ Idle
-  slot_here = ap (λ (l : List (Slot G)). at l v) t.2 ∙ get_or-set_same slots v Idle Idle t.0
+  slot_here : at slots' v ≡ None
+  slot_here = ap (λ (l : List (Option (Key G))). at l v) t.2 ∙ get_or-set_same slots v None None t.0
 
   dx : (x : ℕ) → (x ≡ v) ⊎ (x ≡ v → ⊥) → delay_at os₂ x ≡ delay_at os x
   dx x (inl e) = rw e (ap (λ (p : Outcome). p.delay) q_here)
@@ -281,14 +279,14 @@ module _ {G : Type 0} (good : G → G → Bool) (initial : G) (same : good initi
   still_waits : (s : ℕ) → waits (at slots' s) ≡ true → waits (at slots s) ≡ true
   still_waits s w = ap waits (sym (slot_there s (still s w))) ∙ w
 
-  waits_with : (s : ℕ) → waits (at slots s) ≡ true → at slots s ≡ Waiting (delay_key initial (delay_at os s))
-  waits_with s w = let k = some_waits (at slots s) w in k.1 ∙ ap Waiting (f.keyed s k.0 k.1)
+  waits_with : (s : ℕ) → waits (at slots s) ≡ true → at slots s ≡ Some (start_key initial (delay_at os s))
+  waits_with s w = let k = some_waits (at slots s) w in k.1 ∙ ap Some (f.keyed s k.0 k.1)
 
   -- no waiting point has a smaller delay
   least : (s : ℕ) → waits (at slots s) ≡ true → delay_at os v ≤ delay_at os s
   least s w =
-      let none : ahead good s (Waiting (delay_key initial (delay_at os s))) v (Waiting (delay_key initial (delay_at os v))) ≡ false =
-      subst (λ x. ahead good s x v (Waiting (delay_key initial (delay_at os v))) ≡ false) (waits_with s w)
+      let none : ahead good s (Some (start_key initial (delay_at os s))) v (Some (start_key initial (delay_at os v))) ≡ false =
+      subst (λ x. ahead good s x v (Some (start_key initial (delay_at os v))) ≡ false) (waits_with s w)
       (subst (λ y. ahead good s (at slots s) v y ≡ false) (waits_with v waited) (c.none_ahead s)) in
       ltb-false (delay_at os s) (delay_at os v) (sym (before_delay good initial same (delay_at os s) (delay_at os v)) ∙ or_left _ _ none)
 
@@ -316,12 +314,12 @@ module _ {G : Type 0} (good : G → G → Bool) (initial : G) (same : good initi
       let p = f.pending s (still_waits s w) in
       (p.0, ap (λ (x : Outcome). x.reached) (q_there s (still s w)) ∙ p.1)
 
-  keyed_case : (s : ℕ) (w : Key G) → (s ≡ v) ⊎ (s ≡ v → ⊥) → at slots' s ≡ Waiting w → w ≡ delay_key initial (delay_at os₂ s)
+  keyed_case : (s : ℕ) (w : Key G) → (s ≡ v) ⊎ (s ≡ v → ⊥) → at slots' s ≡ Some w → w ≡ start_key initial (delay_at os₂ s)
   keyed_case s w (inl e) g =
-      let g' : at slots' v ≡ Waiting w = rw e at g in
+      let g' : at slots' v ≡ Some w = rw e at g in
       let h = slot_here in
       let z : ◌≡◌ {A = ℕ} 0 1 = cc in absurd (omega arith)
-  keyed_case s w (inr ne) g = f.keyed s w (sym (slot_there s ne) ∙ g) ∙ ap (delay_key initial) (sym (delays s))
+  keyed_case s w (inr ne) g = f.keyed s w (sym (slot_there s ne) ∙ g) ∙ ap (start_key initial) (sym (delays s))
 
   relaxed_then : (x k w : ℕ) → x < n → reached_at os₂ x ≡ true → (x ≡ v → k < 0) → k < length links → open_end (link_at links k) x ≡ Some w
       → delay_at os₂ x + (link_at links k).delay ≤ bound → (x ≡ v) ⊎ (x ≡ v → ⊥) → Known os₂ slots' w × (delay_at os₂ w ≤ delay_at os₂ x + (link_at links k).delay)
@@ -359,13 +357,13 @@ module _ {G : Type 0} (good : G → G → Bool) (initial : G) (same : good initi
   )
 
 -- Nothing is reached, and the source alone waits.
-module _ {G : Type 0} (initial : G) (links : List Link) (n source bound : ℕ) (os : List Outcome) (slots : List (Slot G))
+module _ {G : Type 0} (initial : G) (links : List Link) (n source bound : ℕ) (os : List Outcome) (slots : List (Option (Key G)))
     (room : n ≤ length os) (seats : n ≤ length slots) (ls : source < n) (fresh : Fresh n os slots) where
   abbrev os₀ : List Outcome
   os₀ = set os source (tentative 0)
 
-  abbrev slots₀ : List (Slot G)
-  slots₀ = set slots source (Waiting (delay_key initial 0))
+  abbrev slots₀ : List (Option (Key G))
+  slots₀ = set slots source (Some (start_key initial 0))
 
   p_here : outcome_at os₀ source ≡ tentative 0
   p_here = get_or-set_same os source (tentative 0) unreached_outcome (omega arith)
@@ -373,12 +371,12 @@ module _ {G : Type 0} (initial : G) (links : List Link) (n source bound : ℕ) (
   p_there : (x : ℕ) → x < n → (x ≡ source → ⊥) → outcome_at os₀ x ≡ unreached_outcome
   p_there x lx ne = get_or-set_other os source x (tentative 0) unreached_outcome ne ∙ fresh.0 x lx
 
-  k_here : at slots₀ source ≡ Waiting (delay_key initial 0)
-  k_here = get_or-set_same slots source (Waiting (delay_key initial 0)) Idle (omega arith)
+  k_here : at slots₀ source ≡ Some (start_key initial 0)
+  k_here = get_or-set_same slots source (Some (start_key initial 0)) None (omega arith)
 
   alone : (s : ℕ) → (s ≡ source) ⊎ (s ≡ source → ⊥) → waits (at slots₀ s) ≡ true → s ≡ source
   alone s (inl e) w = e
-  alone s (inr ne) w = absurd (both_ways _ (ap waits (get_or-set_other slots source s (Waiting (delay_key initial 0)) Idle ne) ∙ fresh.1 s) w)
+  alone s (inr ne) w = absurd (both_ways _ (ap waits (get_or-set_other slots source s (Some (start_key initial 0)) None ne) ∙ fresh.1 s) w)
 
   unreached_all : (x : ℕ) → x < n → (x ≡ source) ⊎ (x ≡ source → ⊥) → reached_at os₀ x ≡ false
   unreached_all x lx (inl e) = rw e (ap (λ (p : Outcome). p.reached) p_here)
@@ -399,12 +397,12 @@ module _ {G : Type 0} (initial : G) (links : List Link) (n source bound : ℕ) (
   given_start x lx (inl e) = rw e (ap (λ (p : Outcome). p.given) p_here)
   given_start x lx (inr ne) = ap (λ (p : Outcome). p.given) (p_there x lx ne)
 
-  key_start : (s : ℕ) (w : Key G) → at slots₀ s ≡ Waiting w → w ≡ delay_key initial (delay_at os₀ s)
+  key_start : (s : ℕ) (w : Key G) → at slots₀ s ≡ Some w → w ≡ start_key initial (delay_at os₀ s)
   key_start s w g =
       let e = alone s (cases_eq s source) (ap waits g) in
-      let g' : at slots₀ source ≡ Waiting w = rw e at g in
+      let g' : at slots₀ source ≡ Some w = rw e at g in
       let k = k_here in
-      let h : w ≡ delay_key initial 0 = cc in
+      let h : w ≡ start_key initial 0 = cc in
       rw (e, delay_zero) h
 
   pub front_start : Front initial links n source bound source (length links) os₀ slots₀
@@ -421,7 +419,7 @@ module _ {G : Type 0} (initial : G) (links : List Link) (n source bound : ℕ) (
   }
 
 -- Nothing waits any more: what is reached is what a route within the bound leads to.
-module _ {G : Type 0} (initial : G) (links : List Link) (n source bound u : ℕ) (os : List Outcome) (slots : List (Slot G))
+module _ {G : Type 0} (initial : G) (links : List Link) (n source bound u : ℕ) (os : List Outcome) (slots : List (Option (Key G)))
     (ls : source < n) (joined : Joined n links) (idle : NoneWaits slots)
     (f : Front initial links n source bound u (length links) os slots) where
   settled : (x : ℕ) → Known os slots x → reached_at os x ≡ true
@@ -454,7 +452,7 @@ good_self good total a = go (cases_Bool (good a a))
     go (inr e) = total a a e
 
 -- what an offer leaves alone
-module _ {G : Type 0} (good : G → G → Bool) (initial : G) (bound to total : ℕ) (os os₁ : List Outcome) (slots slots₁ : List (Slot G)) where
+module _ {G : Type 0} (good : G → G → Bool) (initial : G) (bound to total : ℕ) (os os₁ : List Outcome) (slots slots₁ : List (Option (Key G))) where
   pub offer_beyond : (n : ℕ) → to < n → DelayOffered good initial bound to total os slots os₁ slots₁ → Beyond n os os₁
   offer_beyond n lt (inl (why, eo, es)) v l = ap (λ x. outcome_at x v) eo
   offer_beyond n lt (inr (within, fresh, better, eo, es)) v l = ap (λ x. outcome_at x v) eo ∙ get_or-set_other os to v (tentative total) unreached_outcome (λ e. omega (arith, e, l, lt))
@@ -463,7 +461,7 @@ module _ {G : Type 0} (good : G → G → Bool) (initial : G) (bound to total : 
       → SameReached os os₁ × (length slots₁ ≡ length slots) × ((u : ℕ) → reached_at os u ≡ true → delay_at os₁ u ≡ delay_at os u)
   offer_frame lt (inl (why, eo, es)) = rw (eo, es) ((λ v. refl), refl, (λ u h. refl))
   offer_frame lt (inr (within, fresh, better, eo, es)) =
-      rw (eo, es) ((λ v. same_at v (cases_eq v to)), length-set slots to (Waiting (delay_key initial total)), (λ u h. delay_at_lem u h (cases_eq u to)))
+      rw (eo, es) ((λ v. same_at v (cases_eq v to)), length-set slots to (Some (start_key initial total)), (λ u h. delay_at_lem u h (cases_eq u to)))
     where
       same_at : (v : ℕ) → (v ≡ to) ⊎ (v ≡ to → ⊥) → reached_at (set os to (tentative total)) v ≡ reached_at os v
       same_at v (inl e) = rw e (ap (λ (o : Outcome). o.reached) (get_or-set_same os to (tentative total) unreached_outcome lt) ∙ sym fresh)
@@ -475,7 +473,7 @@ module _ {G : Type 0} (good : G → G → Bool) (initial : G) (bound to total : 
 
 -- One link more is tried from u, open or not.
 module _ {G : Type 0} (good : G → G → Bool) (initial : G) (same : good initial initial ≡ true) (links : List Link) (n source bound u i : ℕ)
-    (os os₁ : List Outcome) (slots slots₁ : List (Slot G))
+    (os os₁ : List Outcome) (slots slots₁ : List (Option (Key G)))
     (room : n ≤ length os) (seats : n ≤ length slots) (joined : Joined n links) (lu : u < n) (li : i < length links) (ru : reached_at os u ≡ true)
     (f : Front initial links n source bound u i os slots) where
   pub record Stepped : Type 0 where

@@ -23,6 +23,11 @@ abbrev pub Checked : List Check → Result Unit Fault → Type 0
 Checked cs (Ok u) = Passed cs
 Checked cs (Err f) = Refused cs f
 
+-- the answer of a call that checks, and gives a value where all checks pass
+abbrev pub Gives : {T : Type 0} → List Check → T → Result T Fault → Type 0
+Gives cs v (Ok x) = Passed cs × (x ≡ v)
+Gives cs v (Err f) = Refused cs f
+
 -- a check that gives one fault
 abbrev pub if_fails : Type 0 → Fault → Check
 if_fails P f = record { fails = P; gives = λ g. g ≡ f }

@@ -1,8 +1,12 @@
 // Why a call is refused: one fault for each check of the rules, with the figure that it tells.
 #![tactic(auto)]
 
-ghost use Rattle.std.specs.Prelude.{◌≡◌};
+ghost use Rattle.std.specs.Prelude.{◌≡◌, ◌≤◌, [], ◌∷◌};
+ghost use Rattle.std.specs.Range.{range_inclusive_start, range_inclusive_end};
+ghost use Rattle.faults.specs.Checks.{Checked, if_fails, range_check};
 ghost use Rattle.faults.specs.Faults.{number_of, figure_of};
+
+use std::ops::RangeInclusive;
 
 #[derive(Clone, Copy, PartialEq, Eq, Debug)]
 pub enum Fault {
@@ -54,13 +58,36 @@ impl Fault {
     pub fn figure(&self) -> u64
         ensures { result ≡ figure_of self.now }
     {
-        match self {
-            Fault::Full(n) | Fault::OutOfRange(n) | Fault::Taken(n) => *n,
-            Fault::TooShort(n) | Fault::ListTooShort(n) | Fault::BadRecord(n) => *n,
-            Fault::NoLayer(l) | Fault::PlaneLayer(l) => u64::from(*l),
+        match *self {
+            Fault::Full(n) | Fault::OutOfRange(n) | Fault::Taken(n) => n,
+            Fault::TooShort(n) | Fault::ListTooShort(n) | Fault::BadRecord(n) => n,
+            Fault::NoLayer(l) | Fault::PlaneLayer(l) => u64::from(l),
             Fault::NoPoint(n) | Fault::NoLink(n) | Fault::NotJoinable(n) | Fault::NoRoute(n) =>
-                u64::from(*n),
+                u64::from(n),
             Fault::NotSearched => 0,
         }
     }
+}
+
+// Refuses one more entry where as many are used as there is room for.
+pub fn check_room(used: usize, room: usize) -> Result<(), Fault>
+    ensures { Checked (if_fails (room ≤ used) (Fault.Full room) ∷ []) result }
+{
+    if used < room {
+        Ok(())
+    } else {
+        Err(Fault::Full(room as u64))
+    }
+}
+
+// Refuses a number that lies outside its range.
+pub fn check_range(value: u64, range: RangeInclusive<u64>) -> Result<(), Fault>
+    ensures { Checked
+        (range_check ((value, range_inclusive_start range, range_inclusive_end range) ∷ []) ∷ [])
+        result }
+{
+    if value < *range.start() || value > *range.end() {
+        return Err(Fault::OutOfRange(value));
+    }
+    Ok(())
 }

@@ -7,15 +7,8 @@ use queues::queue::Queue;
 use stackup::stackup::Stackup;
 use tables::table::Found;
 
-// Whether the stackup is still being built.
-#[derive(Clone, Copy)]
-pub(crate) enum Building {
-    Open,
-    Closed,
-}
-
 // Makes the call of a record on an open stackup.
-pub(crate) fn build(stackup: &mut Stackup, record: Record) -> Result<Building, Fault> {
+pub(crate) fn build(stackup: &mut Stackup, record: Record) -> Result<(), Fault> {
     match record {
         Record::Layer {
             kind,
@@ -32,11 +25,10 @@ pub(crate) fn build(stackup: &mut Stackup, record: Record) -> Result<Building, F
         } => {
             stackup.add_span(low, high, delay, price)?;
         }
-        Record::Close => return Ok(Building::Closed),
-        // no other kind is read at this stage
+        // no other kind is read before the close
         _ => {}
     }
-    Ok(Building::Open)
+    Ok(())
 }
 
 // Makes the call of a record on a board, and answers with what a search found.
@@ -61,9 +53,7 @@ pub(crate) fn route<Q: Queue<Price>>(
             source,
             bound,
             tolerance,
-        } => {
-            return Ok(Some(board.search(queue, source, bound, tolerance)?));
-        }
+        } => return board.search(queue, source, bound, tolerance).map(Some),
         // no other kind is read at this stage
         _ => {}
     }

@@ -2,6 +2,7 @@
 #![tactic(auto)]
 
 mod calls;
+mod records;
 pub mod run;
 #[cfg(test)]
 mod tests;

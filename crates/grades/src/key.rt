@@ -1,12 +1,12 @@
 // Keys of waiting slots.
 ghost use Rattle.std.specs.Prelude.{◌≡◌};
-ghost use Rattle.grades.specs.Keys.{before as comes_before, upto};
+ghost use Rattle.grades.specs.Keys.{before as comes_before, upto, start_key, Extends};
 ghost use Rattle.grades.specs.Keyed.{upto_through};
 ghost use Rattle.std.proofs.Common.{rules};
 
-use crate::Order;
+use crate::{Grade, LinkCost, Order};
 
-#[derive(Clone, Copy)]
+#[derive(Clone, Copy, PartialEq, Eq, Debug)]
 pub struct Key<G> {
     pub grade: G,
     pub delay: u32,
@@ -24,7 +24,31 @@ impl<G: Order> Key<G> {
         if !other.grade.as_good(&self.grade) {
             return true;
         }
-        self.delay < other.delay || (self.delay == other.delay && self.count < other.count)
+        (self.delay, self.count) < (other.delay, other.count)
+    }
+}
+
+impl<G: Grade> Key<G> {
+    // The key of a delay at the start grade, with no links yet.
+    pub fn at_start(delay: u32) -> Key<G>
+        ensures { result ≡ start_key G.Grade.initial delay }
+    {
+        Key {
+            grade: G::start(),
+            delay,
+            count: 0,
+        }
+    }
+
+    // The key of the route that goes on by a link; none where its delay or its count would not fit.
+    pub fn extended(&self, cost: LinkCost, delay: u32) -> Option<Key<G>>
+        ensures { Extends G.Order.as_good G.Grade.after self.now cost delay result }
+    {
+        Some(Key {
+            grade: self.grade.step(cost),
+            delay: self.delay.checked_add(delay)?,
+            count: self.count.checked_add(1)?,
+        })
     }
 }
 

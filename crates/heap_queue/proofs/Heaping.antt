@@ -1,152 +1,91 @@
--- What an exchange of two places does to the order of a heap.
-use Rattle.std.proofs.Common.{◌≡◌, ℕ, zero, suc, ◌+◌, ◌*◌, ◌<◌, ◌≤◌, Bool, true, false, cond, ◌&&◌, ltb, List, get_or, sym, refl, ap, ◌∙◌, ⊎_elim, arith}
-use Rattle.std.proofs.lemmas.Bool.{cases_eq, ltb-true}
+-- The order of a heap: which slot is taken before which, and what the heap's steps keep of it.
+use Rattle.std.proofs.Common.{◌≡◌, ℕ, zero, suc, ◌+◌, ◌<◌, ◌≤◌, ◌≢◌, Bool, true, false, List, length, set, Option, Some, None, refl, arith}
 use Rattle.std.proofs.lemmas.Bool.Decides.{nat_tests}
-use Rattle.queues.specs.declared.slot.Slot.{Slot}
-use Rattle.queues.specs.Slots.{at}
-use Rattle.heap_queue.specs.Heaps.{leads, parent, Ordered, Rising, Sinking, Leading, Swapped, pick}
+use Rattle.std.proofs.lemmas.Grind.{get_or-set_at}
+use Rattle.std.proofs.lemmas.List.{get_or-set_same, get_or-set_other}
+use Rattle.grades.specs.declared.key.Key.{Key}
+use Rattle.grades.specs.Keyed.{before_asym}
+use Rattle.queues.specs.declared.slot.Offer.TheVariants.{Changed}
+use Rattle.queues.specs.Slots.{at, waits, ahead, yields, First, SlotOffer}
 use Rattle.queues.proofs.Precedence.{ahead_trans, ahead_asym, ahead_irrefl}
+use Rattle.heap_queue.proofs.Indexing.{room}
+use Rattle.heap_queue.specs.declared.binary_heap.Heap.{Heap}
+use Rattle.heap_queue.specs.Heaps.{slot_at, place_of, Indexed, leads, parent, Ordered, Rising, Sinking, Exchanged}
 
-module _ {G : Type 0} (good : G → G → Bool) (total : (a b : G) → good a b ≡ false → good b a ≡ true) (trans : (a b c : G) → good a b ≡ true → good b c ≡ true → good a c ≡ true) (xs : List (Slot G)) where
-  leads_asym : (a b : ℕ) → leads good xs a b ≡ true → leads good xs b a ≡ false
-  leads_asym a b = ahead_asym good total trans a b (at xs a) (at xs b)
-
-  leads_trans : (a b c : ℕ) → leads good xs b a ≡ false → leads good xs c b ≡ false → leads good xs c a ≡ false
-  leads_trans a b c = ahead_trans good total trans a b c (at xs a) (at xs b) (at xs c)
-
-  leads_irrefl : (a : ℕ) → leads good xs a a ≡ false
+module _ {G : Type 0} (good : G → G → Bool) (total : (a b : G) → good a b ≡ false → good b a ≡ true) (trans : (a b c : G) → good a b ≡ true → good b c ≡ true → good a c ≡ true) (xs : List (Option (Key G))) where
+  pub leads_irrefl : (a : ℕ) → leads good xs a a ≡ false
+  unfolding leads
   leads_irrefl a = ahead_irrefl good total trans a (at xs a)
 
-  moved : (a b x y : ℕ) → a ≡ x → b ≡ y → leads good xs x y ≡ false → leads good xs a b ≡ false
-  moved a b x y p q h = rw (p, q) h
+  pub leads_asym : (a b : ℕ) → leads good xs a b ≡ true → leads good xs b a ≡ false
+  unfolding leads
+  leads_asym a b = ahead_asym good total trans a b (at xs a) (at xs b)
 
-  rising_step : (h g : List ℕ) (n i : ℕ) → 0 < i → i < n → leads good xs (get_or h i 0) (get_or h (parent i) 0) ≡ true → Swapped h g i (parent i) → Rising good xs h n i → Rising good xs g n (parent i)
-  rising_step h g n i pos within better s r =
-      let back = leads_asym (get_or h i 0) (get_or h (parent i) 0) better in
+  pub leads_trans : (a b c : ℕ) → leads good xs b a ≡ false → leads good xs c b ≡ false → leads good xs c a ≡ false
+  unfolding leads
+  leads_trans a b c = ahead_trans good total trans a b c (at xs a) (at xs b) (at xs c)
+
+  -- slots other than s are in the order that they were in
+  leads_other : (s a b : ℕ) (y : Option (Key G)) → a ≢ s → b ≢ s → leads good (set xs s y) a b ≡ leads good xs a b
+  unfolding leads
+  leads_other s a b y na nb = rw (get_or-set_other xs s a y None na, get_or-set_other xs s b y None nb) refl
+
+  -- a slot that now waits with an earlier key is overtaken by no other
+  leads_earlier : (s a : ℕ) (key : Key G) → s < length xs → waits (at xs s) ≡ true → yields good (at xs s) key ≡ true → a ≢ s → leads good xs a s ≡ false → leads good (set xs s (Some key)) a s ≡ false
+  unfolding leads
+  leads_earlier s a key w wait e na h = rw (get_or-set_other xs s a (Some key) None na, get_or-set_same xs s (Some key) None w) (earlier (at xs s) (at xs a) wait e h)
+    where
+      earlier : (x y : Option (Key G)) → waits x ≡ true → yields good x key ≡ true → ahead good a y s x ≡ false → ahead good a y s (Some key) ≡ false
+      earlier x y w e h = grind (arith, nat_tests, before_asym good total trans, ahead_trans good total trans s s a (Some key) x y)
+
+  -- a slot has risen by one row
+  pub risen : (h g : Heap) (i : ℕ) → 0 < i → i < h.count → leads good xs (slot_at h i) (slot_at h (parent i)) ≡ true → Exchanged h g i (parent i) → Rising good xs h i → Rising good xs g (parent i)
+  risen h g i pos within better e r =
+      let back = leads_asym (slot_at h i) (slot_at h (parent i)) better in
       record {
-        order = λ k p w ne.
-            ⊎_elim
-            (λ e. moved (get_or g k 0) (get_or g (parent k) 0) (get_or h (parent i) 0) (get_or h i 0) (ap (λ j. get_or g j 0) e ∙ s.left) (ap (λ j. get_or g (parent j) 0) e ∙ s.right) back)
-            (λ ki. let kept = s.rest k ki ne in
-            ⊎_elim
-            (λ e. moved (get_or g k 0) (get_or g (parent k) 0) (get_or h k 0) (get_or h (parent i) 0) kept (ap (λ j. get_or g j 0) e ∙ s.left) (r.over k p w pos e))
-            (λ pi.
-            ⊎_elim
-            (λ e. moved (get_or g k 0) (get_or g (parent k) 0) (get_or h k 0) (get_or h i 0) kept (ap (λ j. get_or g j 0) e ∙ s.right)
-            (leads_trans (get_or h i 0) (get_or h (parent i) 0) (get_or h k 0) back (moved (get_or h k 0) (get_or h (parent i) 0) (get_or h k 0) (get_or h (parent k) 0) refl (ap (λ j. get_or h j 0) (sym e)) (r.order k p w ki))))
-            (λ pq. moved (get_or g k 0) (get_or g (parent k) 0) (get_or h k 0) (get_or h (parent k) 0) kept (s.rest (parent k) pi pq) (r.order k p w ki))
-            (cases_eq (parent k) (parent i)))
-            (cases_eq (parent k) i))
-            (cases_eq k i);
-        over = λ k p w q e.
-            let up = s.rest (parent (parent i)) (omega arith) (omega arith) in
-            let b = r.order (parent i) q (omega arith) (omega arith) in
-            ⊎_elim
-            (λ ki. moved (get_or g k 0) (get_or g (parent (parent i)) 0) (get_or h (parent i) 0) (get_or h (parent (parent i)) 0) (ap (λ j. get_or g j 0) ki ∙ s.left) up b)
-            (λ ki. moved (get_or g k 0) (get_or g (parent (parent i)) 0) (get_or h k 0) (get_or h (parent (parent i)) 0) (s.rest k ki (omega arith)) up
-            (leads_trans (get_or h (parent (parent i)) 0) (get_or h (parent i) 0) (get_or h k 0) b (moved (get_or h k 0) (get_or h (parent i) 0) (get_or h k 0) (get_or h (parent k) 0) refl (ap (λ j. get_or h j 0) (sym e)) (r.order k p w ki))))
-            (cases_eq k i);
+        order = λ k z w ne. grind (arith, leads_trans, e.rest k, e.rest (parent k));
+        over = λ k z w q p. grind (arith, leads_trans, e.rest k);
       }
-
-  pub rising_done : (h : List ℕ) (n i : ℕ) → Rising good xs h n i → (0 < i → leads good xs (get_or h i 0) (get_or h (parent i) 0) ≡ false) → Ordered good xs h n
-  rising_done h n i r last k p w =
-      ⊎_elim
-      (λ e. moved (get_or h k 0) (get_or h (parent k) 0) (get_or h i 0) (get_or h (parent i) 0) (ap (λ j. get_or h j 0) e) (ap (λ j. get_or h (parent j) 0) e) (last (omega arith)))
-      (λ ne. r.order k p w ne)
-      (cases_eq k i)
-
-  -- the same where the place above has a name of its own
-  pub risen : (h g : List ℕ) (n i j : ℕ) → j ≡ parent i → 0 < i → i < n → leads good xs (get_or h i 0) (get_or h j 0) ≡ true → Swapped h g i j → Rising good xs h n i → Rising good xs g n j
-  risen h g n i j e pos within better s r = rw e (rising_step h g n i pos within (rw e at better) (rw e at s) r)
-
-  pub risen_done : (h : List ℕ) (n i j : ℕ) → j ≡ parent i → leads good xs (get_or h i 0) (get_or h j 0) ≡ false → Rising good xs h n i → Ordered good xs h n
-  risen_done h n i j e last r = rising_done h n i r (λ pos. rw e at last)
-
-  pub sinking_step : (h g : List ℕ) (n i m : ℕ) → (m ≡ i → ⊥) → Leading good xs h n i m → Swapped h g i m → Sinking good xs h n i → Sinking good xs g n m
-  sinking_step h g n i m mi b s r =
-      let down = b.below mi in
-      record {
-        order = λ k p w ne.
-            ⊎_elim
-            (λ e. moved (get_or g k 0) (get_or g (parent k) 0) (get_or h i 0) (get_or h m 0) (ap (λ j. get_or g j 0) e ∙ s.right) (ap (λ j. get_or g (parent j) 0) e ∙ ap (λ j. get_or g j 0) down.1 ∙ s.left) b.self)
-            (λ km.
-            ⊎_elim
-            (λ e. moved (get_or g k 0) (get_or g (parent k) 0) (get_or h m 0) (get_or h (parent i) 0) (ap (λ j. get_or g j 0) e ∙ s.left) (ap (λ j. get_or g (parent j) 0) e ∙ s.rest (parent i) (omega arith) (omega arith)) (r.over m down.0 b.within (omega arith) down.1))
-            (λ ki. let kept = s.rest k ki km in
-            ⊎_elim
-            (λ e. moved (get_or g k 0) (get_or g (parent k) 0) (get_or h k 0) (get_or h m 0) kept (ap (λ j. get_or g j 0) e ∙ s.left) (b.best k p w e))
-            (λ pi. moved (get_or g k 0) (get_or g (parent k) 0) (get_or h k 0) (get_or h (parent k) 0) kept (s.rest (parent k) pi ne) (r.order k p w pi))
-            (cases_eq (parent k) i))
-            (cases_eq k i))
-            (cases_eq k m);
-        over = λ k p w q e.
-            moved (get_or g k 0) (get_or g (parent m) 0) (get_or h k 0) (get_or h (parent k) 0) (s.rest k (omega arith) (omega arith)) (ap (λ j. get_or g j 0) down.1 ∙ s.left ∙ ap (λ j. get_or h j 0) (sym e)) (r.order k p w (omega arith));
-      }
-
-  pub sinking_done : (h : List ℕ) (n i m : ℕ) → m ≡ i → Leading good xs h n i m → Sinking good xs h n i → Ordered good xs h n
-  sinking_done h n i m mi b r k p w =
-      ⊎_elim
-      (λ e. moved (get_or h k 0) (get_or h (parent k) 0) (get_or h k 0) (get_or h m 0) refl (ap (λ j. get_or h j 0) (e ∙ sym mi)) (b.best k p w e))
-      (λ ne. r.order k p w ne)
-      (cases_eq (parent k) i)
 
   -- nothing in the heap is taken before its top
-  top : (h : List ℕ) (n fuel k : ℕ) → k ≤ fuel → Ordered good xs h n → k < n → leads good xs (get_or h k 0) (get_or h 0 0) ≡ false
-  top h n zero k small o w = moved (get_or h k 0) (get_or h 0 0) (get_or h 0 0) (get_or h 0 0) (ap (λ j. get_or h j 0) (omega arith)) refl (leads_irrefl (get_or h 0 0))
-  top h n (suc fuel) k small o w =
-      ⊎_elim
-      (λ e. moved (get_or h k 0) (get_or h 0 0) (get_or h 0 0) (get_or h 0 0) (ap (λ j. get_or h j 0) e) refl (leads_irrefl (get_or h 0 0)))
-      (λ ne. leads_trans (get_or h 0 0) (get_or h (parent k) 0) (get_or h k 0) (top h n fuel (parent k) (omega arith) o (omega arith)) (o k (omega arith) w))
-      (cases_eq k 0)
+  top : (h : Heap) (fuel k : ℕ) → k ≤ fuel → Ordered good xs h → k < h.count → leads good xs (slot_at h k) (slot_at h 0) ≡ false
+  top h zero k small o w = grind (arith, leads_irrefl)
+  top h (suc fuel) k small o w = let up = top h fuel (parent k) in grind (arith, leads_irrefl, leads_trans, o k)
 
-  pub top_first : (h : List ℕ) (n k : ℕ) → Ordered good xs h n → k < n → leads good xs (get_or h k 0) (get_or h 0 0) ≡ false
-  top_first h n k o w = top h n k k (omega arith) o w
-
-  record Picked (h : List ℕ) (n i j r : ℕ) : Type 0 where
-    within : r < n
-    which : (r ≡ i → ⊥) → r ≡ j
-    first : leads good xs (get_or h i 0) (get_or h r 0) ≡ false
-    second : j < n → leads good xs (get_or h j 0) (get_or h r 0) ≡ false
-
-  picked : (h : List ℕ) (n i j : ℕ) → i < n → Picked h n i j (pick good xs h n i j)
-  picked h n i j w = by (ltb j n) (leads good xs (get_or h j 0) (get_or h i 0)) refl refl
-    where
-      by : (b l : Bool) → ltb j n ≡ b → leads good xs (get_or h j 0) (get_or h i 0) ≡ l → Picked h n i j (cond (b && l) j i)
-      by true true e q = record {
-        within = ltb-true j n e;
-        which = λ ne. refl;
-        first = leads_asym (get_or h j 0) (get_or h i 0) q;
-        second = λ wj. leads_irrefl (get_or h j 0);
-      }
-      by true false e q = record {
-        within = w;
-        which = λ ne. absurd (ne refl);
-        first = leads_irrefl (get_or h i 0);
-        second = λ wj. q;
-      }
-      by false l e q = record {
-        within = w;
-        which = λ ne. absurd (ne refl);
-        first = leads_irrefl (get_or h i 0);
-        second = λ wj. absurd (grind (arith, nat_tests));
-      }
-
-  pub leading : (h : List ℕ) (n i l r : ℕ) → i < n → l ≡ 2 * i + 1 → r ≡ 2 * i + 2 → (f m : ℕ) → f ≡ pick good xs h n i l → m ≡ pick good xs h n f r → Leading good xs h n i m
-  leading h n i l r w el er f m ef em =
-      let p : Picked h n i l f = rw ef (picked h n i l w) in
-      let q : Picked h n f r m = rw em (picked h n f r p.within) in
+  -- the slot at the top is the one to be taken
+  pub top_first : (h : Heap) → 0 < h.count → Indexed xs h → Ordered good xs h → First good xs (slot_at h 0)
+  unfolding leads
+  top_first h some ix o =
+      let st = ix.stands 0 some in
       record {
-        within = q.within;
-        below = λ ne.
-            ⊎_elim
-            (λ e. let x = p.which (λ z. ne (e ∙ z)) in (omega arith, omega arith))
-            (λ mf. let x = q.which mf in (omega arith, omega arith))
-            (cases_eq m f);
-        self = leads_trans (get_or h m 0) (get_or h f 0) (get_or h i 0) q.first p.first;
-        best = λ k pk wk e.
-            ⊎_elim
-            (λ kl. moved (get_or h k 0) (get_or h m 0) (get_or h l 0) (get_or h m 0) (ap (λ j. get_or h j 0) kl) refl
-            (leads_trans (get_or h m 0) (get_or h f 0) (get_or h l 0) q.first (p.second (omega arith))))
-            (λ kl. let kr : k ≡ r = omega arith in moved (get_or h k 0) (get_or h m 0) (get_or h r 0) (get_or h m 0) (ap (λ j. get_or h j 0) kr) refl (q.second (omega arith)))
-            (cases_eq k l);
+        within = st.0;
+        wait = st.1;
+        none_ahead = λ j. let p = ix.placed j in let t = top h (place_of h j) (place_of h j) (omega arith) o in grind arith;
+      }
+
+  -- the slot at the top was exchanged for the last one and is taken
+  pub dropped_sinking : (h e g : Heap) (s : ℕ) → h.count ≡ g.count + 1 → slot_at h 0 ≡ s → Exchanged h e 0 g.count → g.order.now ≡ e.order.now → Indexed xs h → Ordered good xs h → Sinking good (set xs s None) g 0
+  dropped_sinking h e g s more first x q ix o =
+      let s0 = ix.stands 0 (omega arith) in
+      record {
+        order = λ k z w ne. let sk = ix.stands k (omega arith) in let sp = ix.stands (parent k) (omega arith) in grind (arith, leads_other, x.rest k, x.rest (parent k), o k);
+        over = λ k z w zz p. absurd (omega arith);
+      }
+
+  -- slot s begins to wait, at the end of the heap
+  pub pushed_rising : (ys : List (Option (Key G))) (h g : Heap) (s : ℕ) (key : Key G) → SlotOffer good xs s key ys Changed → waits (at xs s) ≡ false → g.count ≡ h.count + 1 → g.order.now ≡ set h.order.now h.count s → g.place.now ≡ set h.place.now s h.count → Indexed xs h → Ordered good xs h → Rising good ys g (place_of g s)
+  pushed_rising ys h g s key e idle n a p ix o =
+      let r = room xs h s key e.0 idle ix in
+      record {
+        order = λ k z w ne. let sk = ix.stands k in let sp = ix.stands (parent k) in grind (arith, get_or-set_at, get_or-set_other, leads_other, o k);
+        over = λ k z w zi q. grind (arith, get_or-set_at);
+      }
+
+  -- slot s waits with an earlier key
+  pub rekeyed_rising : (ys : List (Option (Key G))) (h : Heap) (s : ℕ) (key : Key G) → SlotOffer good xs s key ys Changed → waits (at xs s) ≡ true → Indexed xs h → Ordered good xs h → Rising good ys h (place_of h s)
+  rekeyed_rising ys h s key e wait ix o =
+      let there = ix.placed s wait in
+      record {
+        order = λ k z w ne. let sk = ix.stands k w in let sp = ix.stands (parent k) (omega arith) in grind (arith, leads_other, leads_earlier, o k);
+        over = λ k z w zi q. let sk = ix.stands k w in let sp = ix.stands (parent (place_of h s)) (omega arith) in grind (arith, leads_other, leads_trans, o k, o (place_of h s));
       }

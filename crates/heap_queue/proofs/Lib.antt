@@ -1,4 +1,2 @@
 pub mod Heaping
-pub mod Held
 pub mod Indexing
-pub mod Reheaping

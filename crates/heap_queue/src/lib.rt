@@ -1,8 +1,7 @@
 // A waiting queue as a binary heap.
 #![tactic(auto)]
 
-pub mod calls;
+mod binary_heap;
 pub mod heap;
-mod reheap;
-mod sift;
-mod tree;
+#[cfg(test)]
+mod tests;

@@ -1,6 +1,6 @@
 -- What the single steps do to the tables and to the slots.
-use Rattle.std.specs.Prelude.{◌≡◌, Bool, true, false, cond, ◌⊎◌, List, ℕ, ◌+◌, ◌*◌, ◌/◌, ◌≤◌, ◌<◌, slice_set}
-use Rattle.queues.specs.declared.slot.Slot.{Slot}
+use Rattle.std.specs.Prelude.{◌≡◌, Bool, true, false, cond, ◌⊎◌, List, ℕ, ◌+◌, ◌*◌, ◌/◌, ◌≤◌, ◌<◌, Option, slice_set}
+use Rattle.grades.specs.declared.key.Key.{Key}
 use Rattle.queues.specs.declared.slot.Offer.{Offer}
 use Rattle.queues.specs.Slots.{SlotOffer}
 use Rattle.tables.specs.declared.table.Label.{Label}
@@ -8,26 +8,26 @@ use Rattle.tables.specs.declared.table.Mark.{Mark}
 use Rattle.tables.specs.declared.table.Mark.TheVariants.{Empty, Kept, Waiting, Dropped}
 use Rattle.tables.specs.declared.table.Outcome.{Outcome}
 use Rattle.tables.specs.Tables.{label_at, outcome_at, reached_at, empty_label}
-use Rattle.labels.specs.Candidates.{key_of, chosen_over, improves_on}
+use Rattle.labels.specs.Candidates.{chosen_over, improves_on}
 
 -- the label with another mark
 abbrev pub marked : {G : Type 0} → Mark → Label G → Label G
-marked m l = record { grade = l.grade; delay = l.delay; earlier = l.earlier; count = l.count; link = l.link; mark = m }
+marked m l = record { key = l.key; earlier = l.earlier; link = l.link; mark = m }
 
 -- the outcome with another given bucket
 abbrev pub regiven : ℕ → Outcome → Outcome
 regiven bucket o = record { delay = o.delay; given = bucket; reached = o.reached }
 
 -- one open link tried: the candidate is passed over, or put at its place; in the bucket at hand it is offered too
-abbrev pub Tried : {G : Type 0} → (G → G → Bool) → G → List Outcome → ℕ → ℕ → ℕ → ℕ → ℕ → Label G → List (Label G) → List (Slot G) → List (Label G) → List (Slot G) → Type 0
+abbrev pub Tried : {G : Type 0} → (G → G → Bool) → G → List Outcome → ℕ → ℕ → ℕ → ℕ → ℕ → Label G → List (Label G) → List (Option (Key G)) → List (Label G) → List (Option (Key G)) → Type 0
 Tried good initial os buckets ceiling width bucket to new labels slots labels' slots' =
-    let p = to * buckets + new.delay / width in
-    (((ceiling < new.delay) ⊎ ((reached_at os to ≡ false) ⊎ (chosen_over good new (label_at initial labels p) (label_at initial labels p).mark ≡ false)))
+    let p = to * buckets + new.key.delay / width in
+    (((ceiling < new.key.delay) ⊎ ((reached_at os to ≡ false) ⊎ (chosen_over good new (label_at initial labels p) (label_at initial labels p).mark ≡ false)))
     × (labels' ≡ labels) × (slots' ≡ slots))
-    ⊎ ((new.delay ≤ ceiling) × (reached_at os to ≡ true) × (chosen_over good new (label_at initial labels p) (label_at initial labels p).mark ≡ true)
+    ⊎ ((new.key.delay ≤ ceiling) × (reached_at os to ≡ true) × (chosen_over good new (label_at initial labels p) (label_at initial labels p).mark ≡ true)
     × (labels' ≡ slice_set labels p new)
-    × (((new.delay / width ≡ bucket) × ((r : Offer) × SlotOffer good slots to (key_of new) slots' r))
-    ⊎ ((new.delay / width ≡ bucket → ⊥) × (slots' ≡ slots))))
+    × (((new.key.delay / width ≡ bucket) × ((r : Offer) × SlotOffer good slots to new.key slots' r))
+    ⊎ ((new.key.delay / width ≡ bucket → ⊥) × (slots' ≡ slots))))
 
 -- the label of a point just taken is kept or dropped, by the last one kept there, and a kept one is the point's given one
 abbrev pub Settled : {G : Type 0} → (G → G → Bool) → G → ℕ → ℕ → ℕ → List Outcome → List (Label G) → Bool → List Outcome → List (Label G) → Type 0
@@ -39,10 +39,10 @@ Settled good initial buckets bucket point os labels kept os' labels' =
     × (os' ≡ cond kept (slice_set os point (regiven bucket (outcome_at os point))) os)
 
 -- a point offered at the key of its label, if by its mark the label waits
-abbrev pub OfferedIf : {G : Type 0} → (G → G → Bool) → List (Slot G) → ℕ → Label G → Mark → List (Slot G) → Type 0
+abbrev pub OfferedIf : {G : Type 0} → (G → G → Bool) → List (Option (Key G)) → ℕ → Label G → Mark → List (Option (Key G)) → Type 0
 OfferedIf good slots point label Empty slots' = slots' ≡ slots
 OfferedIf good slots point label Kept slots' = slots' ≡ slots
-OfferedIf good slots point label Waiting slots' = (r : Offer) × SlotOffer good slots point (key_of label) slots' r
+OfferedIf good slots point label Waiting slots' = (r : Offer) × SlotOffer good slots point label.key slots' r
 OfferedIf good slots point label Dropped slots' = slots' ≡ slots
 
 -- a place made blank, if by its mark its label was dropped

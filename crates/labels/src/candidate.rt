@@ -1,21 +1,11 @@
 // Candidates: labels that may be chosen at their place.
 ghost use Rattle.std.specs.Prelude.{◌≡◌, cond, ◌+◌, ◌<◌, length, set};
-ghost use Rattle.labels.specs.Candidates.{key_of, extended, ahead_of, chosen_over, improves_on};
+ghost use Rattle.labels.specs.Candidates.{extended, ahead_of, chosen_over, improves_on};
 ghost use Rattle.tables.specs.Tables.{label_at};
 
 use grades::key::Key;
 use grades::{Grade, Order};
 use tables::table::{Label, Link, Mark};
-
-pub fn key_of<G: Grade>(label: Label<G>) -> Key<G>
-    ensures { result ≡ key_of label }
-{
-    Key {
-        grade: label.grade,
-        delay: label.delay,
-        count: label.count,
-    }
-}
 
 // The label of the route that goes on from a label in `bucket` by link number `number`.
 pub fn extension<G: Grade>(
@@ -25,33 +15,28 @@ pub fn extension<G: Grade>(
     link: Link,
     delay: u32,
 ) -> Label<G>
-    requires { delay ≡ label.delay + link.delay }
+    requires { delay ≡ label.key.delay + link.delay }
     ensures { result ≡ extended G.Grade.after label bucket number link }
 {
-    Label {
-        grade: label.grade.step(link.cost),
+    let key = Key {
+        grade: label.key.grade.step(link.cost),
         delay,
-        earlier: bucket,
         // a kept route visits no point twice, so the count never comes near the limit
-        count: label.count.saturating_add(1),
+        count: label.key.count.saturating_add(1),
+    };
+    Label {
+        key,
+        earlier: bucket,
         link: number,
         mark: Mark::Waiting,
     }
 }
 
-// Whether the first of two candidates is chosen.
+// Whether the first of two candidates is chosen: by its key, and by its link number between equals.
 fn is_ahead<G: Grade>(new: Label<G>, old: Label<G>) -> bool
     ensures { result ≡ ahead_of G.Order.as_good new old }
 {
-    let new_key = key_of(new);
-    let old_key = key_of(old);
-    if new_key.before(&old_key) {
-        true
-    } else if old_key.before(&new_key) {
-        false
-    } else {
-        new.link < old.link
-    }
+    new.key.before(&old.key) || (!old.key.before(&new.key) && new.link < old.link)
 }
 
 // Whether the new label is chosen over what stands at its place.
@@ -86,9 +71,7 @@ pub fn improves<G: Grade>(label: Label<G>, last: Label<G>) -> bool
     ensures { result ≡ improves_on G.Order.as_good label last last.mark }
 {
     match last.mark {
-        Mark::Empty => true,
-        Mark::Kept => !last.grade.as_good(&label.grade),
-        Mark::Waiting => true,
-        Mark::Dropped => true,
+        Mark::Kept => !last.key.grade.as_good(&label.key.grade),
+        Mark::Empty | Mark::Waiting | Mark::Dropped => true,
     }
 }

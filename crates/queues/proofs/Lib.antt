@@ -1,3 +1,1 @@
-pub mod Filled
 pub mod Precedence
-pub mod Steps

@@ -1,7 +1,6 @@
 // Waiting queues: a fixed number of slots, of which some wait, each with a key.
 #![tactic(auto)]
 
-pub mod ahead;
 pub mod alike;
 pub mod queue;
 pub mod row;

@@ -1,10 +1,9 @@
 // A queue that looks through all slots.
-ghost use Rattle.std.specs.Prelude.{◌≡◌, length, replicate, MatchOption};
-ghost use Rattle.queues.specs.declared.slot.Slot.TheVariants.{Idle};
+ghost use Rattle.std.specs.Prelude.{◌≡◌, length, replicate, None, MatchOption};
 ghost use Rattle.queues.specs.Slots.{Model, First, NoneWaits, SlotTake, Chosen};
 
-use crate::ahead::{ahead, idle_all, waits, yields};
 use crate::queue::Queue;
+use crate::row::{ahead_at, idle_all, offer_slot, one_more, waits_at};
 use crate::slot::{Offer, Slot};
 use grades::Order;
 use grades::key::Key;
@@ -18,7 +17,7 @@ pub struct ScanQueue<'k, G> {
 impl<'k, G: Order> ScanQueue<'k, G> {
     // A queue with a slot for each entry of the memory, of which none waits.
     pub fn new(slots: &'k mut [Slot<G>]) -> ScanQueue<'k, G>
-        ensures slots { result.slots.now ≡ replicate (length slots.old) Idle }
+        ensures slots { result.slots.now ≡ replicate (length slots.old) None }
         ensures taken { result.taken ≡ 0 }
     {
         idle_all(slots);
@@ -32,15 +31,11 @@ fn first_waiting<G: Order>(slots: &[Slot<G>]) -> Option<usize>
 {
     let mut first = 0;
     for i in 0..slots.len() {
-        if ahead(slots, i, first) {
+        if ahead_at(slots, i, first) {
             first = i;
         }
     }
-    if first < slots.len() && waits(&slots[first]) {
-        Some(first)
-    } else {
-        None
-    }
+    waits_at(slots, first).then_some(first)
 }
 
 // Ends the waiting of the slot that is to be taken first.
@@ -49,14 +44,12 @@ fn take_first<G: Order>(slots: &mut [Slot<G>]) -> Option<usize>
     ensures chosen { Chosen G.Order.as_good slots.old result }
 {
     let first = first_waiting(slots)?;
-    slots[first] = Slot::Idle;
+    slots[first] = None;
     Some(first)
 }
 
 impl<'k, G: Order> Queue<G> for ScanQueue<'k, G> {
     ghost model = { λ q. record { slots = q.slots.now; taken = q.taken } };
-
-    ghost ready = { λ _. Unit {0} };
 
     fn clear(&mut self) {
         idle_all(self.slots);
@@ -64,19 +57,12 @@ impl<'k, G: Order> Queue<G> for ScanQueue<'k, G> {
     }
 
     fn offer(&mut self, slot: usize, key: &Key<G>) -> Offer {
-        if slot >= self.slots.len() {
-            return Offer::NoSlot;
-        }
-        if !yields(&self.slots[slot], key) {
-            return Offer::Kept;
-        }
-        self.slots[slot] = Slot::Waiting(*key);
-        Offer::Changed
+        offer_slot(self.slots, slot, key)
     }
 
     fn take(&mut self) -> Option<usize> {
         let first = take_first(self.slots)?;
-        self.taken = self.taken.saturating_add(1);
+        self.taken = one_more(self.taken);
         Some(first)
     }
 

@@ -1,3 +1,2 @@
-pub mod Resets
 pub mod Trailing
 pub mod Refusing

@@ -21,6 +21,12 @@ pub record Figures (n source_point most tolerance : ℕ) (p : Plan) : Type 0 whe
   pub width : p.width ≡ width_of (allowance_of most tolerance) n
   pub buckets : p.buckets ≡ buckets_of (ceiling_of most tolerance) (width_of (allowance_of most tolerance) n)
 
+-- the figures of a search over tables of these lengths, or the refusal
+abbrev pub Admitted : ℕ → ℕ → ℕ → ℕ → ℕ → ℕ → ℕ → Result Plan Fault → Type 0
+Admitted n source bound tolerance outcomes slots labels (Ok p) =
+    Passed (search_checks n source bound tolerance outcomes slots labels) × Figures n source bound tolerance p
+Admitted n source bound tolerance outcomes slots labels (Err f) = Refused (search_checks n source bound tolerance outcomes slots labels) f
+
 -- a search is answered with its figures and what it found, or refused with no table changed
 abbrev pub Answered : {G : Type 0} → G → List Link → ℕ → ℕ → ℕ → ℕ → List (Label G) → List Outcome → ℕ
     → Result (Plan × Found) Fault → List (Label G) → List Outcome → Model G → Type 0

@@ -1,8 +1,8 @@
 -- Stackups, and what each call on an open one answers and leaves.
-use Rattle.std.specs.Prelude.{◌≡◌, ℕ, ◌<◌, ◌≤◌, Bool, true, false, cond, ◌&&◌, ◌⊎◌, List, [], ◌∷◌, ◌++◌, length, Ok, Err, Result, ◌==◌, nat_lt, slice_index_or}
+use Rattle.std.specs.Prelude.{◌≡◌, ℕ, ◌<◌, ◌≤◌, Bool, true, false, cond, ◌&&◌, ◌⊎◌, List, [], ◌∷◌, ◌++◌, length, Option, Ok, Err, Result, MatchOption, ◌==◌, nat_lt, slice_index_or}
 use Rattle.faults.specs.declared.Fault.{Fault}
 use Rattle.faults.specs.declared.Fault.TheVariants.{Full, NoLayer, PlaneLayer, Taken, NotJoinable}
-use Rattle.faults.specs.Checks.{Check, Refused, Passed, if_fails, range_check}
+use Rattle.faults.specs.Checks.{Check, Refused, Passed, Gives, if_fails, range_check}
 use Rattle.stackup.specs.declared.layer.Layer.{Layer}
 use Rattle.stackup.specs.declared.layer.Span.{Span}
 use Rattle.stackup.specs.declared.layer.LayerKind.{LayerKind}
@@ -33,6 +33,13 @@ signal_kind Plane = false
 abbrev pub kind_of : ℕ → LayerKind
 kind_of k = cond (k == 1) Signal Plane
 
+abbrev pub kind_check : ℕ → Check
+kind_check k = range_check ((k, 1, 2) ∷ [])
+
+-- what reading a kind by its number answers
+abbrev pub ReadsKind : ℕ → Result LayerKind Fault → Type 0
+ReadsKind k r = Gives (kind_check k ∷ []) (kind_of k) r
+
 -- l is the number of a signal layer
 abbrev pub is_signal : List Layer → ℕ → Bool
 is_signal ls l = nat_lt l (length ls) && signal_kind (layer_at ls l).kind
@@ -49,6 +56,14 @@ OwnSpans ls ss = (k : ℕ) → k < length ss → joins ls (span_at ss k) ≡ tru
 abbrev pub SpanNo : List Span → ℕ → ℕ → ℕ → Type 0
 SpanNo ss a b k = (k < length ss) × ((span_at ss k).low ≡ a) × ((span_at ss k).high ≡ b)
 
+-- the number of the span between two layers, or none where they have none
+abbrev pub FindsSpanNo : List Span → ℕ → ℕ → Option ℕ → Type 0
+FindsSpanNo ss a b r = MatchOption r ((k : ℕ) → SpanNo ss a b k → ⊥) (SpanNo ss a b)
+
+-- the same with the span in place of its number
+abbrev pub FindsSpan : List Span → ℕ → ℕ → Option Span → Type 0
+FindsSpan ss a b r = MatchOption r ((k : ℕ) → SpanNo ss a b k → ⊥) (λ s. (k : ℕ) × SpanNo ss a b k × (s ≡ span_at ss k))
+
 -- no pair of layers has two spans
 abbrev pub OneEach : List Span → Type 0
 OneEach ss = (j k : ℕ) → (j < length ss) × SpanNo ss (span_at ss j).low (span_at ss j).high k → j ≡ k
@@ -60,10 +75,13 @@ layer_numbers_check k d p = range_check ((k, 1, 2) ∷ (d, 1, 1000) ∷ (p, 0, 1
 abbrev pub layer_checks : Stack → ℕ → ℕ → ℕ → List Check
 layer_checks s k d p = if_fails (32 ≤ length s.layers) (Full 32) ∷ layer_numbers_check k d p ∷ []
 
+abbrev pub layer_of : ℕ → ℕ → ℕ → Layer
+layer_of k d p = record { kind = kind_of k; delay_rate = d; price_rate = p }
+
 -- a layer is added at the end under the next number, or the call is refused and nothing changes
 abbrev pub AddsLayer : Stack → ℕ → ℕ → ℕ → Result ℕ Fault → Stack → Type 0
 AddsLayer s k d p (Ok n) t = Passed (layer_checks s k d p) × (n ≡ length s.layers)
-    × (t ≡ record { layers = s.layers ++ (record { kind = kind_of k; delay_rate = d; price_rate = p } ∷ []); spans = s.spans })
+    × (t ≡ record { layers = s.layers ++ (layer_of k d p ∷ []); spans = s.spans })
 AddsLayer s k d p (Err f) t = Refused (layer_checks s k d p) f × (t ≡ s)
 
 -- The checks of a span call between layers a and b, in order.
@@ -101,10 +119,13 @@ AddsSpan s a b d p (Ok n) t = Passed (span_checks s a b d p) × (n ≡ length s.
     × (t ≡ record { layers = s.layers; spans = s.spans ++ (record { delay = d; price = p; low = a; high = b } ∷ []) })
 AddsSpan s a b d p (Err f) t = Refused (span_checks s a b d p) f × (t ≡ s)
 
+-- The check of a call that needs the layer l.
+abbrev pub layer_check : List Layer → ℕ → Check
+layer_check ls l = if_fails (length ls ≤ l) (NoLayer l)
+
 -- The checks of a call that needs the signal layer l.
 abbrev pub signal_checks : List Layer → ℕ → List Check
-signal_checks ls l = if_fails (length ls ≤ l) (NoLayer l) ∷ if_fails (signal_kind (layer_at ls l).kind ≡ false) (PlaneLayer l) ∷ []
+signal_checks ls l = layer_check ls l ∷ if_fails (signal_kind (layer_at ls l).kind ≡ false) (PlaneLayer l) ∷ []
 
 abbrev pub FindsSignal : Stack → ℕ → Result Layer Fault → Type 0
-FindsSignal s l (Ok r) = Passed (signal_checks s.layers l) × (r ≡ layer_at s.layers l)
-FindsSignal s l (Err f) = Refused (signal_checks s.layers l) f
+FindsSignal s l r = Gives (signal_checks s.layers l) (layer_at s.layers l) r

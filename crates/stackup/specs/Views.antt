@@ -5,7 +5,7 @@ use Rattle.stackup.specs.declared.stackup.Stackup.{Stackup}
 use Rattle.stackup.specs.declared.stackup.ClosedStackup.{ClosedStackup}
 
 abbrev pub stack_of : Stackup → Stack
-stack_of s = record { layers = vec_items s.layers.rows; spans = vec_items s.spans.rows }
+stack_of s = record { layers = vec_items s.layers; spans = vec_items s.spans }
 
 abbrev pub closed_of : ClosedStackup → Stack
 closed_of c = stack_of c.stack

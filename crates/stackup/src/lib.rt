@@ -3,6 +3,5 @@
 
 pub mod layer;
 pub mod stackup;
-pub mod table;
 #[cfg(test)]
 mod tests;

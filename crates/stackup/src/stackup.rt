@@ -2,7 +2,7 @@
 ghost use Rattle.std.specs.Prelude.{◌≤◌, vec_len, vec_capacity};
 ghost use Rattle.stackup.specs.Stacks.{OwnSpans, OneEach};
 
-use crate::table::{LayerTable, SpanTable};
+use crate::layer::{Layer, Span};
 
 pub mod build;
 pub mod look;
@@ -10,14 +10,14 @@ pub mod look;
 // A stackup that is being built. Every span joins two of its own signal layers, and no pair has two.
 #[derive(Drop)]
 pub struct Stackup {
-    layers: LayerTable,
-    spans: SpanTable,
-    ghost few: { vec_len layers.rows ≤ 32 },
-    ghost room: { 32 ≤ vec_capacity layers.rows },
-    ghost fewer: { vec_len spans.rows ≤ 64 },
-    ghost space: { 64 ≤ vec_capacity spans.rows },
-    ghost own: { OwnSpans layers.rows.items spans.rows.items },
-    ghost single: { OneEach spans.rows.items },
+    layers: Vec<Layer>,
+    spans: Vec<Span>,
+    ghost few: { vec_len layers ≤ 32 },
+    ghost room: { 32 ≤ vec_capacity layers },
+    ghost fewer: { vec_len spans ≤ 64 },
+    ghost space: { 64 ≤ vec_capacity spans },
+    ghost own: { OwnSpans layers.items spans.items },
+    ghost single: { OneEach spans.items },
 }
 
 // A stackup that is fixed.

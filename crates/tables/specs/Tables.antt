@@ -1,5 +1,6 @@
 -- What the tables of a search hold.
 use Rattle.std.specs.Prelude.{◌≡◌, ℕ, ◌<◌, ◌≤◌, Bool, true, false, cond, List, length, Some, None, Option, ◌==◌, ◌≢◌, slice_index_or}
+use Rattle.grades.specs.Keys.{start_key}
 use Rattle.tables.specs.declared.table.Label.{Label}
 use Rattle.tables.specs.declared.table.Mark.{Mark}
 use Rattle.tables.specs.declared.table.Mark.TheVariants.{Empty, Kept, Waiting, Dropped}
@@ -8,7 +9,7 @@ use Rattle.tables.specs.declared.table.Link.{Link}
 
 -- a place without a label, from the start grade
 abbrev pub empty_label : {G : Type 0} → G → Label G
-empty_label initial = record { grade = initial; delay = 0; earlier = 0; count = 0; link = 0; mark = Empty }
+empty_label initial = record { key = start_key initial 0; earlier = 0; link = 0; mark = Empty }
 
 abbrev pub unreached_outcome : Outcome
 unreached_outcome = record { delay = 0; given = 0; reached = false }

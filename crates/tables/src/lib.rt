@@ -3,7 +3,9 @@
 
 pub mod ends;
 pub mod net;
+pub mod place;
 pub mod plan;
 pub mod prepare;
 pub mod table;
+pub mod task;
 pub mod wipe;

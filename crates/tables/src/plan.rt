@@ -1,6 +1,14 @@
-// The figures of one search.
+// What a search is asked, and its figures.
 ghost use Rattle.std.specs.Prelude.{◌≡◌, ℕ, ◌+◌, ◌-◌, ◌*◌, ◌/◌, ◌<◌, ◌≤◌};
 ghost use Rattle.tables.specs.Plans.{buckets_of};
+
+// What a search is asked: a route to each point from the source, within the bound, which labels may pass by so many thousandths.
+#[derive(Clone, Copy)]
+pub struct Query {
+    pub source: u16,
+    pub bound: u32,
+    pub tolerance: u16,
+}
 
 // The points on the board, where the search begins, and how delays are cut into buckets.
 #[derive(Clone, Copy)]
@@ -19,22 +27,6 @@ pub struct Plan {
     ghost room: { bound + (points - 1) * (width - 1) ≤ ceiling },
 }
 
-// Which part of this width a delay up to the ceiling falls into.
-fn part(delay: u32, ceiling: u32, width: u32) -> u32
-    requires { (delay ≤ ceiling) × (0 < width) }
-    ensures { (result ≡ delay / width) × (result < buckets_of ceiling width) }
-{
-    delay / width
-}
-
-// Where a column of a row stands in a table that holds its rows one after the other.
-fn cell(row: usize, column: u32, rows: usize, columns: u32) -> usize
-    requires { (rows ≤ 4096) × ((row < rows) × (column < columns)) }
-    ensures { (result ≡ row * columns + column) × (result < rows * columns) }
-{
-    row * columns as usize + column as usize
-}
-
 impl Plan {
     // The label places that the search wants.
     pub fn places(self) -> usize
@@ -46,16 +38,9 @@ impl Plan {
     // The bucket of a delay.
     pub fn bucket(self, delay: u32) -> u32
         requires { delay ≤ self.ceiling }
-        ensures { (result ≡ delay / self.width) × (result < self.buckets) }
+        ensures number { result ≡ delay / self.width }
+        ensures within { result < self.buckets }
     {
-        part(delay, self.ceiling, self.width)
-    }
-
-    // Where the label of a point in a bucket stands.
-    pub fn place(self, point: usize, bucket: u32) -> usize
-        requires { (point < self.points) × (bucket < self.buckets) }
-        ensures { (result ≡ point * self.buckets + bucket) × (result < self.points * self.buckets) }
-    {
-        cell(point, bucket, self.points, self.buckets)
+        delay / self.width
     }
 }

@@ -5,36 +5,33 @@ ghost use Rattle.tables.specs.Plans.{allowance_of, width_of};
 ghost use Rattle.tables.specs.Searches.{Planned, figures_check, room_checks};
 
 use crate::net::Net;
-use crate::plan::Plan;
-use faults::Fault;
+use crate::plan::{Plan, Query};
+use faults::{Fault, check_range};
 
-const MAX_BOUND: u32 = 50_000_000;
+const MAX_BOUND: u64 = 50_000_000;
 
-const MAX_TOLERANCE: u16 = 1000;
+const MAX_TOLERANCE: u64 = 1000;
 
 fn check_figures(bound: u32, tolerance: u16) -> Result<(), Fault>
     ensures { Checked (figures_check bound tolerance ∷ []) result }
 {
-    if bound > MAX_BOUND {
-        return Err(Fault::OutOfRange(bound as u64));
-    }
-    if tolerance > MAX_TOLERANCE {
-        return Err(Fault::OutOfRange(tolerance as u64));
-    }
-    Ok(())
+    check_range(bound.into(), 0..=MAX_BOUND)?;
+    check_range(tolerance.into(), 0..=MAX_TOLERANCE)
 }
 
 // How much a route may pass the bound.
 fn allowance(bound: u32, tolerance: u16) -> u32
     requires { tolerance ≤ 1000 }
-    ensures { (result ≡ allowance_of bound tolerance) × (result ≤ bound) }
+    ensures figure { result ≡ allowance_of bound tolerance }
+    ensures most { result ≤ bound }
 {
     (bound as u64 * tolerance as u64 / 1000) as u32
 }
 
 fn bucket_width(allowance: u32, points: usize) -> u32
     requires { allowance < 1000000000 }
-    ensures { (result ≡ width_of allowance points) × (0 < result) }
+    ensures figure { result ≡ width_of allowance points }
+    ensures wide { 0 < result }
 {
     if points <= 1 {
         1
@@ -44,22 +41,22 @@ fn bucket_width(allowance: u32, points: usize) -> u32
 }
 
 // The figures of a search, or why it is refused.
-pub fn prepare(net: Net, source: u16, bound: u32, tolerance: u16) -> Result<Plan, Fault>
-    ensures { Planned net.entry.points source bound tolerance result }
+pub fn prepare(net: Net, query: Query) -> Result<Plan, Fault>
+    ensures { Planned net.entry.points query.source query.bound query.tolerance result }
 {
-    check_figures(bound, tolerance)?;
+    check_figures(query.bound, query.tolerance)?;
     let points = net.points;
-    if source as usize >= points {
-        return Err(Fault::NoPoint(source));
+    if query.source as usize >= points {
+        return Err(Fault::NoPoint(query.source));
     }
-    let allowance = allowance(bound, tolerance);
+    let allowance = allowance(query.bound, query.tolerance);
     let width = bucket_width(allowance, points);
-    let ceiling = bound + allowance;
+    let ceiling = query.bound + allowance;
     let buckets = ceiling / width + 1;
     Ok(Plan {
         points,
-        source: source as usize,
-        bound,
+        source: query.source as usize,
+        bound: query.bound,
         ceiling,
         width,
         buckets,

@@ -1,5 +1,6 @@
 // The records of the tables that a search works on. Fields stand in order of size, the widest first.
 use grades::LinkCost;
+use grades::key::Key;
 
 // A track or a via between two points, which serves both ways while it is open.
 #[derive(Clone, Copy)]
@@ -20,13 +21,11 @@ pub enum Mark {
     Dropped,
 }
 
-// What is kept of one route: its grade, delay and count of links, its last link, and the bucket of the label it extends.
+// What is kept of one route: its key, the bucket of the label it extends, and its last link.
 #[derive(Clone, Copy)]
 pub struct Label<G> {
-    pub grade: G,
-    pub delay: u32,
+    pub key: Key<G>,
     pub earlier: u32,
-    pub count: u32,
     pub link: u16,
     pub mark: Mark,
 }

@@ -4,16 +4,15 @@ ghost use Rattle.tables.specs.Tables.{empty_label, unreached_outcome, Wiped};
 
 use crate::table::{Label, Mark, Outcome};
 use grades::Grade;
+use grades::key::Key;
 
 // What a place without a label holds.
 pub fn empty_label<G: Grade>() -> Label<G>
     ensures { result ≡ empty_label G.Grade.initial }
 {
     Label {
-        grade: G::start(),
-        delay: 0,
+        key: Key::at_start(0),
         earlier: 0,
-        count: 0,
         link: 0,
         mark: Mark::Empty,
     }
@@ -35,7 +34,7 @@ pub fn wipe<T: Copy>(table: &mut [T], wanted: usize, blank: T)
     requires { wanted ≤ length table.old }
     ensures { Wiped blank wanted table.old table.new }
 {
-    for i in 0..wanted {
-        table[i] = blank;
+    for entry in table[..wanted].iter_mut() {
+        *entry = blank;
     }
 }

@@ -1,84 +1,60 @@
 // The checks of the edits, each for itself.
-ghost use Rattle.std.specs.Prelude.{◌≡◌, ℕ, ◌<◌, [], ◌∷◌, MatchOption};
-ghost use Rattle.faults.specs.Checks.{Checked};
-ghost use Rattle.board.specs.Points.{PointNo};
-ghost use Rattle.board.specs.Edits.{place_check, gap_check, point_room_check, link_room_check, taken_check, point_checks, point_check, link_check, ends_check, join_checks};
+ghost use Rattle.std.specs.Prelude.{◌≤◌, [], ◌∷◌, length};
+ghost use Rattle.faults.specs.Checks.{Checked, if_fails};
+ghost use Rattle.board.specs.Edits.{place_check, gap_check, room_check, taken_check, point_checks, point_check, link_check, ends_check, join_checks};
 ghost use Rattle.board.specs.Views.{view_of};
 
 use crate::board::Board;
+use crate::board::join::Join;
 use crate::point::Point;
-use faults::Fault;
+use faults::{Fault, check_range};
 use grades::Grade;
+use lent::Filled;
 
 const MAX_POINTS: usize = 4096;
 
 const MAX_LINKS: usize = 16384;
 
-const MAX_PLACE: u16 = 20_000;
+const MAX_PLACE: u64 = 20_000;
 
-const MAX_GAP: u16 = 20_000;
+const MAX_GAP: u64 = 20_000;
 
 fn check_place(x: u16, y: u16) -> Result<(), Fault>
     ensures { Checked (place_check x y ∷ []) result }
 {
-    if x > MAX_PLACE {
-        return Err(Fault::OutOfRange(x as u64));
-    }
-    if y > MAX_PLACE {
-        return Err(Fault::OutOfRange(y as u64));
-    }
-    Ok(())
+    check_range(x.into(), 0..=MAX_PLACE)?;
+    check_range(y.into(), 0..=MAX_PLACE)
 }
 
 fn check_gap(gap: u16) -> Result<(), Fault>
     ensures { Checked (gap_check gap ∷ []) result }
 {
-    if gap < 1 || gap > MAX_GAP {
-        return Err(Fault::OutOfRange(gap as u64));
-    }
-    Ok(())
+    check_range(gap.into(), 1..=MAX_GAP)
 }
 
-impl<'p, 'l, 'b, 'o, G: Grade> Board<'p, 'l, 'b, 'o, G> {
-    fn check_point_room(&self) -> Result<(), Fault>
-        ensures { Checked (point_room_check (view_of self.now) ∷ []) result }
-    {
-        let room = self.points.len().min(MAX_POINTS);
-        if self.point_count < room {
-            Ok(())
-        } else {
-            Err(Fault::Full(room as u64))
-        }
-    }
+// Whether a table that may hold so many entries has room for one more.
+fn check_room<T: Copy>(table: &Filled<T>, most: usize) -> Result<(), Fault>
+    ensures { Checked (room_check (length table.now.used) (length table.now.free) most ∷ []) result }
+{
+    faults::check_room(table.len(), table.capacity().min(most))
+}
 
-    fn check_link_room(&self) -> Result<(), Fault>
-        ensures { Checked (link_room_check (view_of self.now) ∷ []) result }
-    {
-        let room = self.links.len().min(MAX_LINKS);
-        if self.link_count < room {
-            Ok(())
-        } else {
-            Err(Fault::Full(room as u64))
-        }
+// Whether a table has an entry of this number.
+fn check_number<T: Copy>(table: &Filled<T>, number: u16, missing: Fault) -> Result<(), Fault>
+    ensures { Checked (if_fails (length table.now.used ≤ number) missing ∷ []) result }
+{
+    if (number as usize) < table.len() {
+        Ok(())
+    } else {
+        Err(missing)
     }
+}
 
-    // The number of the point at a place, if there is one.
-    fn find_point(&self, wanted: Point) -> Option<usize>
-        ensures { MatchOption result ((k : ℕ) → PointNo (view_of self.now).points wanted k → ⊥) (λ i. PointNo (view_of self.now).points wanted i) }
-    {
-        let points = &*self.points;
-        for i in 0..self.point_count {
-            if points[i] == wanted {
-                return Some(i);
-            }
-        }
-        None
-    }
-
+impl<G: Grade> Board<'_, G> {
     fn check_untaken(&self, point: Point) -> Result<(), Fault>
         ensures { Checked (taken_check (view_of self.now).points point ∷ []) result }
     {
-        match self.find_point(point) {
+        match self.points.as_slice().iter().position(|p| *p == point) {
             Some(i) => Err(Fault::Taken(i as u64)),
             None => Ok(()),
         }
@@ -88,7 +64,7 @@ impl<'p, 'l, 'b, 'o, G: Grade> Board<'p, 'l, 'b, 'o, G> {
     pub(crate) fn check_new_point(&self, point: Point) -> Result<(), Fault>
         ensures { Checked (point_checks (view_of self.now) point) result }
     {
-        self.check_point_room()?;
+        check_room(&self.points, MAX_POINTS)?;
         check_place(point.x, point.y)?;
         let _ = self.stackup.signal_layer(point.layer)?;
         self.check_untaken(point)
@@ -97,21 +73,13 @@ impl<'p, 'l, 'b, 'o, G: Grade> Board<'p, 'l, 'b, 'o, G> {
     pub(crate) fn check_point(&self, point: u16) -> Result<(), Fault>
         ensures { Checked (point_check (view_of self.now) point ∷ []) result }
     {
-        if (point as usize) < self.point_count {
-            Ok(())
-        } else {
-            Err(Fault::NoPoint(point))
-        }
+        check_number(&self.points, point, Fault::NoPoint(point))
     }
 
     pub(crate) fn check_link(&self, link: u16) -> Result<(), Fault>
         ensures { Checked (link_check (view_of self.now) link ∷ []) result }
     {
-        if (link as usize) < self.link_count {
-            Ok(())
-        } else {
-            Err(Fault::NoLink(link))
-        }
+        check_number(&self.links, link, Fault::NoLink(link))
     }
 
     // The first of two ends that is not on the board is told.
@@ -123,11 +91,11 @@ impl<'p, 'l, 'b, 'o, G: Grade> Board<'p, 'l, 'b, 'o, G> {
     }
 
     // The checks that a track and a via share, in order.
-    pub(crate) fn check_join(&self, from: u16, to: u16, gap: u16) -> Result<(), Fault>
-        ensures { Checked (join_checks (view_of self.now) from to gap) result }
+    pub(crate) fn check_join(&self, join: Join) -> Result<(), Fault>
+        ensures { Checked (join_checks (view_of self.now) join.from join.to join.gap) result }
     {
-        self.check_link_room()?;
-        check_gap(gap)?;
-        self.check_ends(from, to)
+        check_room(&self.links, MAX_LINKS)?;
+        check_gap(join.gap)?;
+        self.check_ends(join.from, join.to)
     }
 }

@@ -1,5 +1,5 @@
 // Opening a board, and the edits.
-ghost use Rattle.std.specs.Prelude.{◌≡◌, ℕ, ◌<◌, true, false, length};
+ghost use Rattle.std.specs.Prelude.{◌≡◌, ◌<◌, true, false, length};
 ghost use Rattle.stackup.specs.Views.{closed_of};
 ghost use Rattle.board.specs.Boards.{new_board, with_standing};
 ghost use Rattle.board.specs.Edits.{AddsPoint, AddsTrack, AddsVia, SetsMark, with_link};
@@ -7,30 +7,30 @@ ghost use Rattle.tables.specs.Tables.{Ends};
 ghost use Rattle.board.specs.Views.{view_of};
 
 use crate::board::Board;
+use crate::board::join::Join;
 use crate::point::Point;
 use faults::Fault;
 use grades::Grade;
+use lent::Filled;
 use stackup::stackup::ClosedStackup;
 use tables::plan::Plan;
 use tables::table::{Label, Link, Outcome};
 
-impl<'p, 'l, 'b, 'o, G: Grade> Board<'p, 'l, 'b, 'o, G> {
+impl<'t, G: Grade> Board<'t, G> {
     // A board with no points and no links, whatever the tables hold.
     pub fn open(
         stackup: ClosedStackup,
-        points: &'p mut [Point],
-        links: &'l mut [Link],
-        labels: &'b mut [Label<G>],
-        outcomes: &'o mut [Outcome],
-    ) -> Board<'p, 'l, 'b, 'o, G>
+        points: &'t mut [Point],
+        links: &'t mut [Link],
+        labels: &'t mut [Label<G>],
+        outcomes: &'t mut [Outcome],
+    ) -> Board<'t, G>
         ensures { view_of result ≡ new_board (closed_of stackup) points.old links.old labels.old outcomes.old }
     {
         Board {
             stackup,
-            points,
-            point_count: 0,
-            links,
-            link_count: 0,
+            points: Filled::new(points),
+            links: Filled::new(links),
             labels,
             outcomes,
             standing: None,
@@ -50,34 +50,33 @@ impl<'p, 'l, 'b, 'o, G: Grade> Board<'p, 'l, 'b, 'o, G> {
     {
         let point = Point { x, y, layer };
         self.check_new_point(point)?;
-        let n = self.point_count;
-        self.points[n] = point;
-        self.point_count = n + 1;
+        let number = self.points.len();
+        self.points.push(point);
         self.set_standing(None);
-        Ok(n as u16)
+        Ok(number as u16)
     }
 
     // Puts a link under the next number.
     fn push_link(&mut self, link: Link) -> u16
-        requires room { self.old.link_count < length self.old.links.now }
-        requires few { self.old.link_count < 16384 }
-        requires ends { Ends self.old.point_count link }
+        requires room { 0 < length self.old.links.free }
+        requires few { length self.old.links.used < 16384 }
+        requires ends { Ends (length self.old.points.used) link }
         ensures number { result ≡ length (view_of self.old).links }
         ensures after { view_of self.new ≡ with_link (view_of self.old) link }
     {
-        let n = self.link_count;
-        self.links[n] = link;
-        self.link_count = n + 1;
+        let number = self.links.len();
+        self.links.push(link);
         self.set_standing(None);
-        n as u16
+        number as u16
     }
 
     // Adds a track between two points, and answers with its number.
     pub fn add_track(&mut self, from: u16, to: u16, gap: u16) -> Result<u16, Fault>
         ensures { AddsTrack (view_of self.old) from to gap result (view_of self.new) }
     {
-        self.check_join(from, to, gap)?;
-        let track = self.track_between(from, to, gap)?;
+        let join = Join { from, to, gap };
+        self.check_join(join)?;
+        let track = self.track_between(join)?;
         Ok(self.push_link(track))
     }
 
@@ -85,8 +84,9 @@ impl<'p, 'l, 'b, 'o, G: Grade> Board<'p, 'l, 'b, 'o, G> {
     pub fn add_via(&mut self, from: u16, to: u16, gap: u16) -> Result<u16, Fault>
         ensures { AddsVia (view_of self.old) from to gap result (view_of self.new) }
     {
-        self.check_join(from, to, gap)?;
-        let via = self.via_between(from, to, gap)?;
+        let join = Join { from, to, gap };
+        self.check_join(join)?;
+        let via = self.via_between(join)?;
         Ok(self.push_link(via))
     }
 
@@ -94,7 +94,12 @@ impl<'p, 'l, 'b, 'o, G: Grade> Board<'p, 'l, 'b, 'o, G> {
         ensures { SetsMark (view_of self.old) link «open» result (view_of self.new) }
     {
         self.check_link(link)?;
-        self.links[link as usize].open = open;
+        let number = link as usize;
+        let changed = Link {
+            open,
+            ..self.links.as_slice()[number]
+        };
+        self.links.set(number, changed);
         self.set_standing(None);
         Ok(())
     }

@@ -1,30 +1,20 @@
 // Searching a board, and reading the routes that it found.
 ghost use Rattle.std.specs.Prelude.{◌≡◌, length};
-ghost use Rattle.board.specs.Routes.{Searches, Reads, Untouched, route_of};
+ghost use Rattle.board.specs.Routes.{Searches, Reads, ReadsBy, Untouched};
 ghost use Rattle.board.specs.Views.{view_of};
 
 use crate::board::Board;
-use crate::point::Route;
 use faults::Fault;
 use grades::Grade;
+use grades::key::Key;
 use queues::queue::Queue;
-use search::read::{given_bucket, label_at, write_trail};
+use search::read::{Traces, given_bucket};
 use search::run::search;
 use tables::net::Net;
-use tables::table::{Found, Label, Mark};
+use tables::plan::{Plan, Query};
+use tables::table::{Found, Mark};
 
-// What is told of a label's route.
-fn route_of<G: Grade>(label: Label<G>) -> Route<G>
-    ensures { result ≡ route_of label }
-{
-    Route {
-        grade: label.grade,
-        delay: label.delay,
-        count: label.count,
-    }
-}
-
-impl<'p, 'l, 'b, 'o, G: Grade> Board<'p, 'l, 'b, 'o, G> {
+impl<G: Grade> Board<'_, G> {
     // Finds the best route to each point within the bound, and answers with the width, the points reached and the number taken.
     pub fn search<Q: Queue<G>>(
         &mut self,
@@ -37,45 +27,44 @@ impl<'p, 'l, 'b, 'o, G: Grade> Board<'p, 'l, 'b, 'o, G> {
         ensures queue { Untouched result queue.old queue.new }
         ensures slots { length (Q.Queue.model queue.new).slots ≡ length (Q.Queue.model queue.old).slots }
     {
-        let links = std::mem::replace(&mut self.links, &mut []);
-        let labels = std::mem::replace(&mut self.labels, &mut []);
-        let outcomes = std::mem::replace(&mut self.outcomes, &mut []);
         let net = Net {
-            points: self.point_count,
-            links: &links[0..self.link_count],
+            points: self.points.len(),
+            links: self.links.as_slice(),
         };
-        let answer = search(net, labels, outcomes, queue, source, bound, tolerance);
-        self.links = links;
-        self.labels = labels;
-        self.outcomes = outcomes;
-        let (plan, found) = answer?;
+        let query = Query {
+            source,
+            bound,
+            tolerance,
+        };
+        let (plan, found) = search(net, self.labels, self.outcomes, queue, query)?;
         self.set_standing(Some(plan));
         Ok(found)
     }
 
-    // Writes the links of the route given at a point, source first, and answers with its count, delay and grade.
-    pub fn read(&self, point: u16, list: &mut [u16]) -> Result<Route<G>, Fault>
-        ensures { Reads G.Grade.initial (view_of self.now) point list.old result list.new }
+    // Reads by the figures of the search that stands.
+    fn read_by(&self, plan: Plan, point: u16, list: &mut [u16]) -> Result<Key<G>, Fault>
+        ensures { ReadsBy G.Grade.initial (view_of self.now) plan point list.old result list.new }
     {
-        self.check_point(point)?;
-        let Some(plan) = self.standing else {
-            return Err(Fault::NotSearched);
+        let traces = Traces {
+            links: self.links.as_slice(),
+            labels: self.labels,
+            buckets: plan.buckets,
         };
         let bucket = given_bucket(self.outcomes, point);
-        let label = label_at(self.labels, plan.buckets, point, bucket);
+        let label = traces.label_at(point, bucket);
         let Mark::Kept = label.mark else {
             return Err(Fault::NoRoute(point));
         };
-        let links = &self.links[0..self.link_count];
-        write_trail(
-            links,
-            self.labels,
-            plan.buckets,
-            point,
-            bucket,
-            label.count,
-            list,
-        )?;
-        Ok(route_of(label))
+        traces.write_trail(point, bucket, label.key.count, list)?;
+        Ok(label.key)
+    }
+
+    // Writes the links of the route given at a point, source first, and answers with its grade, delay and count.
+    pub fn read(&self, point: u16, list: &mut [u16]) -> Result<Key<G>, Fault>
+        ensures { Reads G.Grade.initial (view_of self.now) point list.old result list.new }
+    {
+        self.check_point(point)?;
+        let plan = self.standing.ok_or(Fault::NotSearched)?;
+        self.read_by(plan, point, list)
     }
 }

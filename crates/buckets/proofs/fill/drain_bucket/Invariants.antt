@@ -6,13 +6,12 @@ use Rattle.buckets.proofs.fill.drain_bucket.Given as goal
 
 abbrev pub invariant-loop-point : goal.invariant-loop-point
 invariant-loop-point g l =
-    let q = g.Q.Queue in
-    let p = l.plan in
-    let i = g.G.Grade.initial in
-    (Filling i p l.links l.bucket l.outcomes l.labels (q.model l.queue).slots)
-    × (length (q.model l.queue).slots ≡ length (q.model l.initial.queue).slots)
-    × (Frame i p.points p.buckets l.initial.outcomes l.initial.labels l.outcomes l.labels)
-    × (q.ready l.initial.queue → q.ready l.queue)
+    let q = g.Q.Queue.model in
+    record {
+      filling : Filling g.G.Grade.initial l.bucket.task l.bucket.number l.outcomes l.labels (q l.queue).slots;
+      slots : length (q l.queue).slots ≡ length (q l.initial.queue).slots;
+      frame : Frame g.G.Grade.initial l.bucket.task.plan l.initial.outcomes l.initial.labels l.outcomes l.labels;
+    }
 
 abbrev pub decreases-loop-point : goal.decreases-loop-point
-decreases-loop-point g l = l.plan.points - tally (closed_in g.G.Grade.initial l.plan l.bucket l.labels) l.plan.points
+decreases-loop-point g l = let p = l.bucket.task.plan in p.points - tally (closed_in g.G.Grade.initial p l.bucket.number l.labels) p.points

@@ -5,11 +5,11 @@ use Rattle.buckets.proofs.fill.expand.Given as goal
 
 abbrev pub invariant-loop-number : goal.invariant-loop-number
 invariant-loop-number g l =
-    let q = g.Q.Queue in
-    let p = l.plan in
+    let q = g.Q.Queue.model in
     let i = g.G.Grade.initial in
-    (Expanding i p l.links l.bucket l.point l.label l.outcomes l.labels (q.model l.queue).slots)
-    × (SameOpen i p l.bucket l.initial.labels l.labels)
-    × (length (q.model l.queue).slots ≡ length (q.model l.initial.queue).slots)
-    × (Frame i p.points p.buckets l.outcomes l.initial.labels l.outcomes l.labels)
-    × (q.ready l.initial.queue → q.ready l.queue)
+    record {
+      expanding : Expanding i l.bucket.task l.bucket.number l.point l.label l.outcomes l.labels (q l.queue).slots;
+      same : SameOpen i l.bucket.task.plan l.bucket.number l.initial.labels l.labels;
+      slots : length (q l.queue).slots ≡ length (q l.initial.queue).slots;
+      frame : Frame i l.bucket.task.plan l.outcomes l.initial.labels l.outcomes l.labels;
+    }

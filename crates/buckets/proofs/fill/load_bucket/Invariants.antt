@@ -4,7 +4,8 @@ use Rattle.buckets.proofs.fill.load_bucket.Given as goal
 
 abbrev pub invariant-loop-point : goal.invariant-loop-point
 invariant-loop-point g l =
-    let q = g.Q.Queue in
-    (Loaded g.G.Grade.initial l.plan l.bucket l.point l.labels (q.model l.queue).slots)
-    × (length (q.model l.queue).slots ≡ length (q.model l.initial.queue).slots)
-    × (q.ready l.initial.queue → q.ready l.queue)
+    let q = g.Q.Queue.model in
+    record {
+      loaded : Loaded g.G.Grade.initial l.bucket.task.plan l.bucket.number l.point l.labels (q l.queue).slots;
+      slots : length (q l.queue).slots ≡ length (q l.initial.queue).slots;
+    }

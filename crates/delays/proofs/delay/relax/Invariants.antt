@@ -5,11 +5,12 @@ use Rattle.delays.proofs.delay.relax.Given as goal
 
 abbrev pub invariant-loop-link : goal.invariant-loop-link
 invariant-loop-link g l =
-    let q = g.Q.Queue in
-    (Front g.G.Grade.initial l.links l.plan.points l.plan.source l.plan.bound l.from l.link-index l.outcomes (q.model l.queue).slots)
-    × (length (q.model l.queue).slots ≡ length (q.model l.initial.queue).slots)
-    × (SameReached l.initial.outcomes l.outcomes)
-    × (delay_at l.outcomes l.from ≡ l.delay)
-    × ((q.model l.queue).taken ≡ (q.model l.initial.queue).taken)
-    × (Beyond l.plan.points l.initial.outcomes l.outcomes)
-    × (q.ready l.initial.queue → q.ready l.queue)
+    let q = g.Q.Queue.model in
+    record {
+      front : Front g.G.Grade.initial l.task.links.now l.task.plan.points l.task.plan.source l.task.plan.bound l.from l.link-index l.outcomes (q l.queue).slots;
+      slots : length (q l.queue).slots ≡ length (q l.initial.queue).slots;
+      reached : SameReached l.initial.outcomes l.outcomes;
+      delay : delay_at l.outcomes l.from ≡ l.delay;
+      number : (q l.queue).taken ≡ (q l.initial.queue).taken;
+      rest : Beyond l.task.plan.points l.initial.outcomes l.outcomes;
+    }

@@ -1,5 +1,5 @@
-use Rattle.tables.specs.Tables.{Wiped}
+use Rattle.std.proofs.Common.{◌≡◌, take, replicate}
 use Rattle.tables.proofs.wipe.wipe.Given as goal
 
-abbrev pub invariant-loop-i : goal.invariant-loop-i
-invariant-loop-i g l = Wiped l.blank l.i l.initial.table l.table
+abbrev pub invariant-loop-entry : goal.invariant-loop-entry
+invariant-loop-entry g l = take l.entry-index l.entry-items ≡ replicate l.entry-index l.blank
