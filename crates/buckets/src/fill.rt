@@ -54,31 +54,31 @@ fn expand<G: Grade, Q: Queue<G>>(
     }
 }
 
-// Offers the point if its label in this bucket waits.
-fn offer_point<G: Grade, Q: Queue<G>>(
-    bucket: Bucket,
-    labels: &[Label<G>],
-    queue: &mut Q,
-    point: usize,
-)
-    requires labels_room { bucket.task.plan.points * bucket.task.plan.buckets ≤ length labels.now }
-    requires point_within { point < bucket.task.plan.points }
-    ensures { OfferedIf G.Order.as_good (Q.Queue.model queue.old).slots point (label_in G.Grade.initial bucket.entry.task.plan labels.now point bucket.entry.number) (label_in G.Grade.initial bucket.entry.task.plan labels.now point bucket.entry.number).mark (Q.Queue.model queue.new).slots }
+// Offers the point of a place if its label there waits.
+fn offer_point<G: Grade, Q: Queue<G>>(place: Place, labels: &[Label<G>], queue: &mut Q)
+    requires { place.plan.points * place.plan.buckets ≤ length labels.now }
+    ensures { OfferedIf G.Order.as_good (Q.Queue.model queue.old).slots place.point (label_in G.Grade.initial place.plan labels.now place.point place.bucket) (label_in G.Grade.initial place.plan labels.now place.point place.bucket).mark (Q.Queue.model queue.new).slots }
 {
-    let label = label_at(labels, bucket.place(point));
-    offer_waiting(queue, point, label);
+    let label = label_at(labels, place);
+    offer_waiting(queue, place.point, label);
 }
 
 // Offers each point that has a candidate in this bucket.
-fn load_bucket<G: Grade, Q: Queue<G>>(bucket: Bucket, labels: &[Label<G>], queue: &mut Q)
-    requires labels_room { bucket.task.plan.points * bucket.task.plan.buckets ≤ length labels.now }
+fn load_bucket<G: Grade, Q: Queue<G>>(plan: Plan, labels: &[Label<G>], queue: &mut Q, bucket: u32)
+    requires labels_room { plan.points * plan.buckets ≤ length labels.now }
+    requires bucket_within { bucket < plan.buckets }
     requires none_waits { NoneWaits (Q.Queue.model queue.old).slots }
-    requires slots_room { bucket.task.plan.points ≤ length (Q.Queue.model queue.old).slots }
-    ensures loaded { Loaded G.Grade.initial bucket.entry.task.plan bucket.entry.number bucket.entry.task.plan.points labels.now (Q.Queue.model queue.new).slots }
+    requires slots_room { plan.points ≤ length (Q.Queue.model queue.old).slots }
+    ensures loaded { Loaded G.Grade.initial plan bucket plan.points labels.now (Q.Queue.model queue.new).slots }
     ensures slots { length (Q.Queue.model queue.new).slots ≡ length (Q.Queue.model queue.old).slots }
 {
-    for point in 0..bucket.task.plan.points {
-        offer_point(bucket, labels, queue, point);
+    for point in 0..plan.points {
+        let place = Place {
+            plan,
+            point,
+            bucket,
+        };
+        offer_point(place, labels, queue);
     }
 }
 
@@ -147,7 +147,7 @@ fn fill_bucket<G: Grade, Q: Queue<G>>(
     ensures slots { length (Q.Queue.model queue.new).slots ≡ length (Q.Queue.model queue.old).slots }
     ensures frame { Frame G.Grade.initial bucket.entry.task.plan outcomes.old labels.old outcomes.new labels.new }
 {
-    load_bucket(bucket, labels, queue);
+    load_bucket(bucket.task.plan, labels, queue, bucket.number);
     drain_bucket(bucket, labels, outcomes, queue);
     sweep_bucket(bucket, labels);
 }

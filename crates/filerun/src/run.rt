@@ -77,22 +77,22 @@ fn say_routes(out: &mut String, board: &Board<Price>, found: Found) -> Result<()
     Ok(())
 }
 
-// The stackup of a file, by the records up to the one that closes it.
+// The stackup of a file, by the records up to the one that closes it; none if reading ends before.
 fn run_stackup(
     heap: Global,
     out: &mut String,
     records: &mut Records,
-) -> Result<ClosedStackup, AllocError> {
+) -> Result<Option<ClosedStackup>, AllocError> {
     let mut stackup = Stackup::new(heap)?;
     for (place, read) in records.by_ref() {
         if let Ok(Record::Close) = read {
-            break;
+            return Ok(Some(stackup.close()));
         }
         if let Err(fault) = read.and_then(|record| build(&mut stackup, record)) {
             say(out, refusal(fault, place))?;
         }
     }
-    Ok(stackup.close())
+    Ok(None)
 }
 
 // Makes the calls of the records after the close.
@@ -151,7 +151,8 @@ pub fn run(heap: Global, file: &[u8]) -> Result<String, AllocError>
         return Ok(out);
     }
     let mut records = Records::new(file);
-    let stackup = run_stackup(heap, &mut out, &mut records)?;
-    run_closed(&mut out, records, stackup)?;
+    if let Some(stackup) = run_stackup(heap, &mut out, &mut records)? {
+        run_closed(&mut out, records, stackup)?;
+    }
     Ok(out)
 }
