@@ -31,7 +31,7 @@ fn u32_at(bytes: &[u8], at: usize) -> u32
 }
 
 // The record that a kind and a body stand for: none where the kind is not of this stage or the body not of its length.
-// Kept out of line: where it is inlined, a record is put together anew, byte by byte, at each step that hands it on.
+// Kept out of line: so `decode`, called over and over, was measured faster than with this inlined.
 #[inline(never)]
 fn record_of(stage: Stage, kind: u16, body: &[u8]) -> Option<Record>
     ensures { result ≡ body_of stage kind body.now }
